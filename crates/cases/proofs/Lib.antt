@@ -1,0 +1,2 @@
+-- The starred cases, by computation.
+pub mod Starred

@@ -1,0 +1,5 @@
+-- The definitions of the passes for reasons 1, 2, 4 and 5, of placing reports, and of their final order.
+pub mod Report
+pub mod TopDown
+pub mod LeftRecursion
+pub mod Order

@@ -1,0 +1,2 @@
+-- The definition of the whole check.
+pub mod Check
