@@ -5,15 +5,15 @@ use Prim.Native.Nat.{ℕ, zero, suc, _+_, _-_, _*_, _/_, _%_, _^_, _<_, _≤_}
 use native.Mathlib.Nat.{mod-eq-of-lt, mod-one, mod-lt, pow-succ', zero-add, sub-zero}
 use native.Mathlib.Omega.{arith}
 use native.Mathlib.Decide.{decLt}
-use lib.ListN.{length, getD, take, drop, length-append, length-replicate, List·getD-append}
-use lib.Seq.{getD-append-add, getD-drop, getD-take}
+use lib.ListN.{length, getD, take, drop, set, length-append, length-replicate, List·getD-append}
+use lib.Seq.{getD-append-add, getD-drop, getD-take, set-append-seam}
 use lib.Arith.{mod-mul}
 use lib.Dec.{lit<, lit≤}
 use Rattle.tables.specs.Bytes.{zeros, byteOf, leAt, Small}
 use Rattle.tables.specs.Places.{places}
-use Rattle.tables.specs.Words.{counted, words, spare, bytesOf, laid}
+use Rattle.tables.specs.Words.{counted, words, spare, bytesOf, laid, Stored}
 use Rattle.tables.proofs.Bytes.{pow-pos, leAt-move, leAt-zero, leAt-zeros, leAt-lt, getD-zeros, zeros-by, small-zeros, small-append}
-use Rattle.tables.proofs.Words.{counted-length, counted-at, words-length, words-at, words-by, spare-length, words-unique}
+use Rattle.tables.proofs.Words.{counted-length, counted-at, words-length, words-at, words-by, spare-length, words-unique, stored-small}
 
 -- every word fits 8 bytes
 abbrev pub Fit : List ℕ → Type 0
@@ -164,3 +164,36 @@ module _ (t xs : List ℕ) (b : Small t) (room : length xs ≤ places 8 t) where
 pub laid-none : (n : ℕ) → zeros n ≡ laid n []
 unfolding laid bytesOf
 laid-none n = rw (sub-zero n)
+
+-- a word put behind the words that a table is laid with
+module _ (n : ℕ) (xs : List ℕ) (x : ℕ) (fit : Fit xs) (small : x < 256 ^ 8) (room : length xs < n / 8) where
+  pub fit-more : Fit (xs ++ (x ∷ []))
+  fit-more i l = go i l (decLt i (length xs))
+    where
+      go : (i : ℕ) → i < length (xs ++ (x ∷ [])) → Dec (i < length xs) → getD (xs ++ (x ∷ [])) i 0 < 256 ^ 8
+      go i l (yes h) = rw (List·getD-append xs (x ∷ []) 0 i h) (fit i h)
+      go i l (no h) =
+          let e : i ≡ length xs + 0 = omega (arith, length-append xs (x ∷ [])) in
+          rw (e, getD-append-add xs (x ∷ []) 0 0) small
+
+  pub laid-more : (t : List ℕ) → Stored (laid n xs) (length xs) x t → t ≡ laid n (xs ++ (x ∷ []))
+  laid-more t p =
+      rw (p .same-length ∙ laid-length n xs (omega arith)) at
+      (laid-of-words t (xs ++ (x ∷ [])) (stored-small p (small-laid n xs)) (omega (arith, length-append xs (x ∷ []), lens)) by-words by-spare)
+    where
+      lens : length t ≡ n
+      lens = p .same-length ∙ laid-length n xs (omega arith)
+
+      by-words : words t ≡ (xs ++ (x ∷ [])) ++ zeros (places 8 t - length (xs ++ (x ∷ [])))
+      by-words =
+          let k = n / 8 - length xs - 1 in
+          let e : n / 8 - length xs ≡ suc k = omega arith in
+          let q : k ≡ places 8 t - length (xs ++ (x ∷ [])) = omega (arith, length-append xs (x ∷ []), lens) in
+          p .words-set
+          ∙ ap (λ (ws : List ℕ). set ws (length xs) x) (laid-words n xs (omega arith) fit ∙ ap (λ (m : ℕ). xs ++ zeros m) e)
+          ∙ set-append-seam xs 0 (zeros k) x
+          ∙ sym (append-assoc xs (x ∷ []) (zeros k))
+          ∙ ap (λ (m : ℕ). (xs ++ (x ∷ [])) ++ zeros m) q
+
+      by-spare : spare t ≡ zeros (length (spare t))
+      by-spare = p .spare-kept ∙ laid-spare n xs (omega arith) ∙ ap (λ (s : List ℕ). zeros (length s)) (sym (p .spare-kept))

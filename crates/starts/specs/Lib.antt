@@ -1,0 +1,2 @@
+-- What the promises of the starts say.
+pub mod Promise
