@@ -5,3 +5,5 @@ pub mod Looks
 pub mod Visits
 pub mod Given
 pub mod Along
+pub mod Asks
+pub mod RunSteps
