@@ -17,7 +17,8 @@ use Rattle.machine.proofs.Turns.{Copy, copy-weaker, Copies}
 use Rattle.machine.proofs.Loops.{Loops}
 use Rattle.asking.specs.World.{World, Ask}
 use Rattle.asking.specs.Runs.{Ran, ran, place, next, stepsGo, stepsAt, stepsFull, steps, ends, greedyGo, greedyAt, greedyFull, greedy, Search, loops, breaks, spent, anySameTop, loopsSeen, loopsOut, loopsGo, loopsForever}
-use Rattle.asking.proofs.Tests.{and-left, and-right, or-left, or-right, PlacedAt, place-says, anySameTop-says}
+use Rattle.stack.proofs.Coverage.{and-left, and-right}
+use Rattle.asking.proofs.Tests.{or-left, or-right, PlacedAt, place-says, anySameTop-says}
 use Rattle.asking.proofs.Kept.{Law, Kept, Good, Keeps, then-good, good-weaker}
 use Rattle.asking.proofs.Lasso.{Link, Linked, linked-weaker, lasso}
 

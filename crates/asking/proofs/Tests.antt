@@ -12,18 +12,11 @@ use borrow.Author.Tests.{eqb-true}
 use Rattle.stack.specs.declared.Base.{Base}
 use Rattle.stack.specs.declared.Base.the-variants.{Empty, Blank, Any}
 use Rattle.stack.specs.State.{State, sameBit, sameTops, sameTop}
+use Rattle.stack.proofs.Coverage.{and-left, and-right}
 use Rattle.stack.proofs.Bits.{sameTops-eq}
 use Rattle.machine.specs.Lists.{Mem}
 use Rattle.asking.specs.World.{Ask, Pair, sameBase, sameState, isPair}
 use Rattle.asking.specs.Runs.{oneMore, place, anySameTop}
-
-pub and-left : (a b : Bool) → a && b ≡ true → a ≡ true
-and-left true b e = refl
-and-left false b e = e
-
-pub and-right : (a b : Bool) → a && b ≡ true → b ≡ true
-and-right true b e = e
-and-right false b e = absurd (false≢true e)
 
 pub or-left : (a b : Bool) → a ≡ true → a || b ≡ true
 or-left true b e = refl

@@ -1,5 +1,5 @@
 -- `rule_modifies_stack` (document 01, "Outcomes", "Skips"): whether a rule may change the stack. It never gives 12. Assumes nothing.
-use mathlib.Core.Bool.{Bool, true, false, _||_, not}
+use mathlib.Core.Bool.{Bool, true, false, _||_}
 use mathlib.Core.List.{List, [], _∷_}
 use Prim.Native.Nat.{ℕ, zero, suc}
 use lib.Dec.{eqb}

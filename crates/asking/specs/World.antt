@@ -1,10 +1,9 @@
 -- What a run of the stack pass remembers and reports, and how an ask answers. Assumes nothing.
-use mathlib.Core.Bool.{Bool, true, false, _&&_, _||_, not, cond}
+use mathlib.Core.Bool.{Bool, true, false, _&&_, _||_, cond}
 use mathlib.Core.List.{List, [], _∷_, _++_}
 use mathlib.Core.Option.{Option, none, some}
 use Prim.Native.Nat.{ℕ}
-use lib.Dec.{eqb, ltb}
-use lib.ListN.{length}
+use lib.Dec.{eqb}
 use Rattle.stack.specs.declared.Base.{Base}
 use Rattle.stack.specs.declared.Base.the-variants.{Empty, Blank, Any}
 use Rattle.stack.specs.State.{State, sameBit, sameTops}

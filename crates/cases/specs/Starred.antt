@@ -1,11 +1,10 @@
 -- The starred cases of document 01 ("Sides of each limit") as one table: an image, and what the check gives. Assumes nothing.
-use mathlib.Core.Path.{_≡_}
-use mathlib.Core.Bool.{Bool, true, false}
-use mathlib.Core.List.{List, [], _∷_, _++_}
+use mathlib.Core.Bool.{true}
+use mathlib.Core.List.{List, [], _∷_}
 use Prim.Native.Nat.{ℕ, zero, suc}
-use lib.ListN.{length, take, replicate}
+use lib.ListN.{take, replicate}
 use Rattle.stack.specs.declared.Base.the-variants.{Empty}
-use Rattle.stack.specs.State.{State, entry, maxLen, push, unknown}
+use Rattle.stack.specs.State.{State, entry}
 use Rattle.image.specs.Grammar.{Grammar, grammar}
 use Rattle.machine.specs.Kind.{Kind}
 use Rattle.asking.specs.Reading.{nodesOf}

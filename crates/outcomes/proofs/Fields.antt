@@ -3,11 +3,12 @@ use mathlib.Core.Path.{_≡_, refl, sym}
 use mathlib.Core.Bool.{Bool, true, false}
 use Prim.Native.Nat.{ℕ, _+_, _*_, _^_, _/_, _%_, _<_}
 use native.Mathlib.Omega.{arith}
-use lib.Bits.{bitAnd, bitOr, and-mask, or-shifted}
+use lib.Bits.{bitAnd, bitOr, and-mask}
 use lib.Dec.{eqb}
 use mir.Val.{boolByte}
 use Rattle.stack.specs.State.{maxLen}
 use Rattle.stack.specs.Number.{bit}
+use Rattle.stack.proofs.Fields.{beside, byte-is-bit}
 use Rattle.stack.proofs.Numbers.{bit-lt}
 use Rattle.outcomes.specs.declared.Maybe.{Maybe}
 use Rattle.outcomes.specs.declared.Outcome.{Outcome}
@@ -17,10 +18,7 @@ use Rattle.outcomes.proofs.Made.{made}
 use Rattle.outcomes.proofs.Words.{maybeNumber-lt, number-ok, number-err}
 use Rattle.outcomes.proofs.Within.{maybe-within}
 
--- two fields side by side, the upper one shifted over the lower one's place
-beside : (k a b x y : ℕ) → x ≡ a * 2 ^ k → y ≡ b → b < 2 ^ k → bitOr x y ≡ a * 2 ^ k + b
-beside k a b x y p q h = rw (p, q, or-shifted a k b h)
-
+-- the three fields of an outcome's word, side by side over its formed bit
 coded : (err ok e : ℕ) → err < 32768 → ok < 32768 → e < 2
     → bitOr (bitOr (bitOr (err * 131072 % 18446744073709551616) (ok * 4 % 18446744073709551616)) (e * 2 % 18446744073709551616)) 1
     ≡ 1 + 2 * e + 4 * ok + 131072 * err
@@ -32,10 +30,6 @@ coded err ok e herr hok he =
     let two : bitOr (bitOr x y) z ≡ (err * 32768 + ok) * 2 ^ 2 + e * 2 = beside 2 (err * 32768 + ok) (e * 2) (bitOr x y) z (omega arith) (omega arith) (omega arith) in
     let three : bitOr (bitOr (bitOr x y) z) 1 ≡ (err * 65536 + ok * 2 + e) * 2 ^ 1 + 1 = beside 1 (err * 65536 + ok * 2 + e) 1 (bitOr (bitOr x y) z) 1 (omega arith) refl (omega arith) in
     omega arith
-
-byte-is-bit : (b : Bool) → boolByte b ≡ bit b
-byte-is-bit true = refl
-byte-is-bit false = refl
 
 pub encode-law : (o : Outcome) → Formed o
     → bitOr

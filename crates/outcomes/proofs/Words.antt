@@ -9,7 +9,7 @@ use native.Mathlib.Omega.{arith}
 use lib.Dec.{eqb}
 use Rattle.stack.specs.State.{State, Within, maxLen}
 use Rattle.stack.specs.Number.{bit, numberOf, stateAt, NumberOfState}
-use Rattle.stack.proofs.Numbers.{bit-lt, base-lt, blank-lt, stateAt-numberOf}
+use Rattle.stack.proofs.Numbers.{bit-lt, bit-eqb, base-lt, blank-lt, stateAt-numberOf}
 use Rattle.machine.specs.Outcome.{Maybe, Outcome}
 use Rattle.outcomes.specs.Word.{WithinMaybe, WithinOutcome, maybeNumber, maybeAt, outcomeNumber, outcomeAt, NumberOfMaybe, NumberOfOutcome}
 
@@ -37,10 +37,6 @@ number-of-state n h p = go (h .maybe) (h .within) (h .number)
     go : (m : Maybe) → WithinMaybe maxLen m → maybeNumber m ≡ n → NumberOfState maxLen (n - 1)
     go none w e = absurd (p (sym e))
     go (some s) w e = record { state = s; within = w; number = omega arith }
-
-bit-eqb : (b : Bool) → eqb (bit b) 1 ≡ b
-bit-eqb true = refl
-bit-eqb false = refl
 
 -- an answer's number is not that of an open pair
 pub outcomeNumber-marked : (o : Outcome) → 0 < outcomeNumber o

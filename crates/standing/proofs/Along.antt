@@ -1,12 +1,11 @@
 -- Questions that come to questions: the laws of runs and of questions asked in a row. Assumes nothing.
-use mathlib.Core.Path.{_≡_, refl, sym, ap, _∙_}
+use mathlib.Core.Path.{_≡_, refl, _∙_}
 use mathlib.Core.List.{List}
 use Prim.Native.Nat.{ℕ, _<_}
 use Rattle.asking.specs.World.{Setup, World, Answer, refused, given, andThen}
-use Rattle.tables.specs.Map.{Keeps}
 use Rattle.tables.proofs.Memo.{keeps-self, keeps-trans}
 use Rattle.standing.specs.Stands.{Lent, Tables, Stands}
-use Rattle.standing.specs.Answers.{setupFor, Standing, Given, Answering, Along}
+use Rattle.standing.specs.Answers.{setupFor, Standing, Answering, Along}
 use Rattle.standing.proofs.Given.{then-refused, then-given, given-standing, given-is, given-since}
 
 module _ {A : Type 0} {image : List ℕ} {T₀ : Tables} {count₀ : ℕ} {Q₀ : Setup → World → Answer A} where

@@ -2,31 +2,26 @@
 use mathlib.Core.Path.{_≡_, refl, sym, ap, subst, _∙_}
 use mathlib.Core.Bool.{Bool, true, false}
 use mathlib.Core.List.{List}
-use Prim.Native.Nat.{ℕ, zero, suc, _+_, _-_, _*_, _/_, _^_, _<_, _≤_}
-use native.Mathlib.Omega.{arith}
+use Prim.Native.Nat.{ℕ, suc, _<_}
 use lib.Dec.{lit≤, lit<}
-use lib.ListN.{length}
 use Rattle.stack.specs.State.{State, Within, maxLen}
 use Rattle.machine.specs.Outcome.{Outcome, unknown}
-use Rattle.asking.specs.World.{Setup, World, Answer, refused, given, andThen, look, known, opened, absent, hasPair, opens, closes, walks}
+use Rattle.asking.specs.World.{Setup, World, Answer, refused, given, andThen, look, opens, closes, walks}
 use Rattle.asking.specs.Ask.{step, visit}
 use Rattle.asking.specs.StackPass.{setupOf}
 use Rattle.tables.specs.Places.{valueAt, setValue, setPlace}
 use Rattle.tables.specs.Probing.{probe}
-use Rattle.tables.specs.Map.{Keeps}
 use Rattle.tables.specs.declared.Probe.the-variants.{Found, Free, Full}
 use Rattle.tables.proofs.Memo as Table
 use Rattle.tables.proofs.Memo.{memo-keeps, keeps-value, keeps-self, keeps-trans}
-use Rattle.outcomes.specs.Promise.{IsOutcome}
 use Rattle.outcomes.specs.Word.{outcomeNumber, outcomeAt, WithinOutcome, NumberOfOutcome}
-use Rattle.outcomes.proofs.Words.{outcomeAt-outcomeNumber, outcomeNumber-lt, number-of-outcome}
+use Rattle.outcomes.proofs.Words.{outcomeAt-outcomeNumber, outcomeNumber-lt}
 use Rattle.standing.specs.Stands.{keyOf, Lent, Tables, Stands}
-use Rattle.standing.specs.Answers.{setupFor, Standing, GivenIf, Given, Answering, Along}
+use Rattle.standing.specs.Answers.{setupFor, Standing, GivenIf, Answering, Along}
 use Rattle.standing.proofs.Maps.{look-open, look-known, known-formed}
 use Rattle.standing.proofs.Moves.{withMemo, withWalked, key-nz, key-lt, opens-stands, closes-stands, walks-stands}
 use Rattle.standing.proofs.Looks.{walked-found, walked-free, walked-full, memo-found, memo-free, memo-full}
 use Rattle.standing.proofs.Visits.{visit-none, visit-walked, visit-new, visit-full, outcome-known, outcome-open, outcome-new, outcome-full}
-use Rattle.standing.proofs.Given.{given-since}
 
 -- no node may open any more: 12
 pub visit-refuses : {image : List ℕ} {T₀ T : Tables} {count₀ count : ℕ} {I : Outcome → Type 0} (left : ℕ) (walking : Bool) (n : ℕ) (s : State) → left ≡ 0

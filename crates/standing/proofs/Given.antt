@@ -1,5 +1,5 @@
 -- Answers in a row: what a refusal and an answer of the first question make of the whole. Assumes nothing.
-use mathlib.Core.Path.{_≡_, refl, sym, ap, _∙_}
+use mathlib.Core.Path.{_≡_, refl}
 use Prim.Native.Nat.{ℕ, _<_}
 use native.Mathlib.Omega.{arith}
 use Rattle.asking.specs.World.{World, Answer, refused, given, andThen}

@@ -3,7 +3,7 @@ use mathlib.Core.Path.{_≡_, refl, sym, ap, _∙_}
 use mathlib.Core.Bool.{Bool, true, false, _&&_, _||_, cond}
 use mathlib.Core.List.{List, [], _∷_}
 use mathlib.Core.Option.{Option, none, some}
-use Prim.Native.Nat.{ℕ, suc, _+_, _*_, _<_, _≤_}
+use Prim.Native.Nat.{ℕ, suc}
 use native.Mathlib.Omega.{arith}
 use lib.Dec.{eqb}
 use lib.ListN.{length}
@@ -13,11 +13,11 @@ use Rattle.stack.specs.Number.{numberOf}
 use Rattle.stack.proofs.Numbers.{numberOf-lt}
 use Rattle.machine.specs.Outcome.{Outcome}
 use Rattle.asking.specs.World.{Pair, Entry, sameState, isPair, hasPair, Look, absent, opened, known, lookAnswer, look, answered}
-use Rattle.tables.specs.Map.{Map, lookup, replace}
+use Rattle.tables.specs.Map.{lookup, replace}
 use Rattle.tables.proofs.Pair.{pair-inj}
 use Rattle.outcomes.specs.Word.{outcomeNumber, WithinOutcome}
 use Rattle.standing.specs.Stands.{keyOf, answerNumber, memoMap, walkedMap, FormedPair, FormedPairs, FormedAnswer, FormedEntries}
-use Rattle.starts.proofs.States.{sameState-number, sameState-eq, sameState-refl, test-iff}
+use Rattle.starts.proofs.States.{sameState-number, sameState-eq, test-iff}
 
 -- two pairs have one key exactly if they are one pair
 pub key-pair : (n : ℕ) (s : State) (p : Pair) → Within maxLen s → FormedPair p → eqb (keyOf (p .node) (p .state)) (keyOf n s) ≡ isPair n s p

@@ -1,33 +1,32 @@
 -- What a place taken, a value stored or a report placed makes of the world that the tables stand for. Assumes nothing.
-use mathlib.Core.Path.{_≡_, refl, sym, ap, _∙_}
+use mathlib.Core.Path.{_≡_, refl, ap, _∙_}
 use mathlib.Core.Bool.{Bool, true, false, _||_}
 use mathlib.Core.List.{List, [], _∷_, _++_, append-assoc, append-nil}
-use mathlib.Core.Option.{none, some}
-use Prim.Native.Nat.{ℕ, zero, suc, _+_, _-_, _*_, _/_, _^_, _<_, _≤_}
+use Prim.Native.Nat.{ℕ, suc, _+_, _/_, _^_, _<_, _≤_}
 use native.Mathlib.Omega.{arith}
 use lib.Dec.{eqb, lit≤, lit<}
-use lib.ListN.{length, getD, set, take, drop, length-append, length-replicate, length-set, List·getD-append, List·getD-eq-default}
-use lib.Seq.{getD-set-same, getD-set-other, getD-append-add, set-append-seam}
+use lib.ListN.{length, getD, set, length-append, length-replicate, length-set}
+use lib.Seq.{getD-set-same, getD-set-other}
 use borrow.Author.Tests.{eqb-true, eqb-false}
 use Rattle.stack.specs.State.{State, Within, maxLen}
 use Rattle.stack.specs.Number.{numberOf, bit}
 use Rattle.stack.proofs.Numbers.{numberOf-lt}
 use Rattle.machine.specs.Outcome.{Outcome}
-use Rattle.asking.specs.World.{Pair, Entry, World, nothingYet, hasNode, opens, closes, walks, reports, answered}
-use Rattle.tables.specs.Bytes.{zeros, setLe, Small}
-use Rattle.tables.specs.Places.{places, setValue, setPlace}
+use Rattle.asking.specs.World.{Pair, World, nothingYet, hasNode, opens, closes, walks, reports}
+use Rattle.tables.specs.Bytes.{zeros}
+use Rattle.tables.specs.Places.{setValue, setPlace}
 use Rattle.tables.specs.Probing.{probe}
-use Rattle.tables.specs.Map.{Memo, start, grow}
+use Rattle.tables.specs.Map.{start, grow}
 use Rattle.tables.specs.Words.{laid, Stored}
 use Rattle.tables.specs.Report.{report}
 use Rattle.tables.specs.declared.Probe.the-variants.{Found, Free}
 use Rattle.tables.proofs.Memo.{memo-replace}
-use Rattle.tables.proofs.Pair.{pair-nz, pair-lt}
+use Rattle.tables.proofs.Pair.{pair-nz}
 use Rattle.tables.proofs.Laid.{Fit, fit-more, laid-more}
 use Rattle.tables.proofs.Bytes.{getD-zeros}
 use Rattle.outcomes.specs.Word.{outcomeNumber, WithinOutcome}
 use Rattle.asking.specs.StackPass.{loopReports}
-use Rattle.standing.specs.Stands.{keyOf, memoMap, walkedMap, FormedPair, Lent, Tables, Stands}
+use Rattle.standing.specs.Stands.{keyOf, memoMap, walkedMap, Lent, Tables, Stands}
 use Rattle.standing.proofs.Maps.{answered-map, answered-formed}
 
 -- the tables with one of them changed

@@ -1,13 +1,13 @@
 -- `steps`, `greedy` and `loops_forever`, copy by copy: what the definition comes to. Assumes nothing.
-use mathlib.Core.Path.{_≡_, refl, sym, ap, _∙_}
-use mathlib.Core.Bool.{Bool, true, false}
-use mathlib.Core.List.{List, [], _∷_}
-use mathlib.Core.Option.{Option, none, some}
+use mathlib.Core.Path.{_≡_, refl}
+use mathlib.Core.Bool.{Bool, false}
+use mathlib.Core.List.{List}
+use mathlib.Core.Option.{none, some}
 use Prim.Native.Nat.{ℕ, zero, suc}
 use Rattle.stack.specs.State.{State, fresh}
-use Rattle.machine.specs.Outcome.{Maybe, Outcome, exact}
-use Rattle.asking.specs.World.{World, Answer, refused, given, andThen, Ask}
-use Rattle.asking.specs.Runs.{Ran, ran, place, readOff, next, ends, stepsGo, steps, greedyGo, greedy, Search, spent, loopsGo, loopsForever}
+use Rattle.machine.specs.Outcome.{Maybe, exact}
+use Rattle.asking.specs.World.{World, refused, given, andThen, Ask}
+use Rattle.asking.specs.Runs.{ran, place, readOff, next, ends, stepsGo, steps, greedyGo, greedy, spent, loopsGo, loopsForever}
 
 module _ (ask : Ask) (walking : Bool) (part : ℕ) where
   -- a bounded run: no copy is left; a start comes again; the 65th start; a new start

@@ -1,14 +1,13 @@
 -- The definition of `visit` and `outcome`, case by case. Assumes nothing.
-use mathlib.Core.Path.{_≡_, refl, sym, ap, _∙_}
-use mathlib.Core.Bool.{Bool, true, false, _&&_, not}
-use Prim.Native.Nat.{ℕ, zero, suc, _<_, _≤_}
+use mathlib.Core.Path.{_≡_, refl}
+use mathlib.Core.Bool.{Bool, true, false}
+use Prim.Native.Nat.{ℕ, suc, _<_}
 use native.Mathlib.Omega.{arith}
-use lib.Dec.{ltb}
 use lib.ListN.{length}
 use borrow.Author.Tests.{lt-ltb, le-ltb}
 use Rattle.stack.specs.State.{State}
 use Rattle.machine.specs.Outcome.{Outcome, unknown}
-use Rattle.asking.specs.World.{Setup, World, Answer, refused, given, andThen, hasPair, Look, absent, opened, known, look, opens, closes, walks}
+use Rattle.asking.specs.World.{Setup, World, refused, given, andThen, hasPair, absent, opened, known, look, opens, closes, walks}
 use Rattle.asking.specs.Ask.{step, visit}
 
 module _ (S : Setup) (left n : ℕ) (s : State) (W : World) where

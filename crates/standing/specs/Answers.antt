@@ -1,16 +1,10 @@
 -- What the members of the cycle ask of their arguments, and what their answers say: the definition's answer, for every world that
 -- the tables stand for. Assumes nothing.
 use mathlib.Core.Path.{_≡_}
-use mathlib.Core.Bool.{Bool}
 use mathlib.Core.List.{List}
 use Prim.Native.Nat.{ℕ, _-_, _/_, _<_}
 use lib.ListN.{length}
-use Rattle.stack.specs.declared.AbsStack.{AbsStack}
-use Rattle.stack.specs.State.{maxLen}
-use Rattle.stack.specs.Promise.{WellFormed}
-use Rattle.image.specs.Accepted.{Accepted}
 use Rattle.image.specs.Grammar.{grammar}
-use Rattle.asking.specs.Reading.{skipsOf}
 use Rattle.asking.specs.World.{Setup, World, Answer, refused, given}
 use Rattle.asking.specs.StackPass.{setupOf}
 use Rattle.tables.specs.Map.{Keeps}

@@ -1,21 +1,20 @@
 -- Where a state stands among the starts, found from the newest on; one start more. Assumes nothing.
 use mathlib.Core.Path.{_≡_, refl, sym, ap, _∙_}
-use mathlib.Core.Bool.{Bool, true, false, _||_, cond}
-use mathlib.Core.List.{List, [], _∷_}
+use mathlib.Core.Bool.{Bool, true, false}
+use mathlib.Core.List.{List, _∷_}
 use mathlib.Core.Option.{Option, none, some}
 use Prim.Native.Nat.{ℕ, zero, suc, _+_, _-_, _%_, _≤_, _<_}
 use native.Mathlib.Numerals.{add-one}
 use native.Mathlib.Omega.{arith}
 use lib.Dec.{eqb}
-use lib.ListN.{getD, set, length, length-set, length-replicate}
+use lib.ListN.{getD, set, length-set}
 use lib.Seq.{getD-set-same, getD-set-other}
 use borrow.Author.Tests.{eq-eqb, ne-eqb, eqb-true, eqb-false}
-use Rattle.stack.specs.State.{State, maxLen, sameTop}
+use Rattle.stack.specs.State.{State, maxLen}
 use Rattle.stack.specs.Number.{stateAt, NumberOfState}
-use Rattle.asking.specs.World.{sameState}
 use Rattle.asking.specs.Runs.{oneMore, place, anySameTop}
 use Rattle.starts.specs.declared.Starts.{Starts}
-use Rattle.starts.specs.Promise.{newestFirst, startsOf, Numbered, Begun, More, At}
+use Rattle.starts.specs.Promise.{newestFirst, Numbered, More}
 use Rattle.starts.proofs.States.{sameState-numbers, sameTop-numbers}
 
 -- a place found d starts further back

@@ -2,26 +2,19 @@
 -- Assumes nothing.
 use mathlib.Core.Path.{_≡_, refl, sym, ap, _∙_}
 use mathlib.Core.Bool.{Bool, true, false, _&&_}
-use Prim.Native.Nat.{ℕ, _+_, _*_, _%_, _/_}
+use Prim.Native.Nat.{ℕ, _+_, _*_, _%_}
 use native.Mathlib.Omega.{arith}
 use lib.Dec.{eqb}
 use lib.ListN.{length}
-use borrow.Author.Tests.{eq-eqb, ne-eqb, eqb-true, eqb-false}
+use borrow.Author.Tests.{eq-eqb, eqb-true}
 use Rattle.stack.specs.declared.Base.{Base}
 use Rattle.stack.specs.declared.Base.the-variants.{Empty, Blank, Any}
 use Rattle.stack.specs.State.{State, Within, maxLen, sameBit, sameTops, sameTop}
 use Rattle.stack.specs.Number.{bits, numberOf, stateAt, NumberOfState}
+use Rattle.stack.proofs.Coverage.{and-left, and-right}
 use Rattle.stack.proofs.Bits.{sameBit-refl, sameTops-refl, sameTops-eq, bits-one}
 use Rattle.stack.proofs.Numbers.{numberOf-one, stateAt-numberOf, blank-lt}
 use Rattle.asking.specs.World.{sameBase, sameState}
-
-and-left : (a b : Bool) → a && b ≡ true → a ≡ true
-and-left true b e = refl
-and-left false b e = e
-
-and-right : (a b : Bool) → a && b ≡ true → b ≡ true
-and-right true b e = e
-and-right false b e = absurd (let z : _≡_ {A = ℕ} 0 1 = cc in omega arith)
 
 bit-eq : (a b : Bool) → sameBit a b ≡ true → a ≡ b
 bit-eq true b e = sym e

@@ -1,5 +1,5 @@
 -- The whole check (document 01, "What comes back"): refusals 1 to 7, the passes in their order, and the final order. Assumes nothing.
-use mathlib.Core.List.{List, [], _∷_, _++_}
+use mathlib.Core.List.{List, [], _++_}
 use Prim.Native.Nat.{ℕ, zero, suc, _-_}
 use lib.ListN.{length}
 use Rattle.image.specs.Refusal.{refusal}
