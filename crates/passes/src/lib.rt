@@ -1,1 +1,5 @@
-// The checks of repetitions, choices and left recursion, and the final order of reports: definitions.
+// The checks of repetitions, choices and left recursion, and the final order of reports.
+pub mod left;
+pub mod order;
+mod placing;
+pub mod topdown;
