@@ -36,24 +36,23 @@ const fn group(kind: &'static str, seed: u64, look: u32, with: usize, without: u
     }
 }
 
+/// A group whose images are kept for a report of reason 3.
+const fn looping(kind: &'static str, seed: u64, look: u32, with: usize, without: usize) -> Group {
+    Group {
+        wanted: 3,
+        ..group(kind, seed, look, with, without)
+    }
+}
+
 /// The generated images.
 const GENERATED: [Group; 21] = [
     group("small", 101, 2000, 100, 30),
     group("stack", 102, 2000, 100, 30),
     group("loops", 103, 1500, 100, 80),
-    Group {
-        wanted: 3,
-        ..group("loops", 117, 6000, 160, 0)
-    },
-    Group {
-        wanted: 3,
-        ..group("probes", 120, 2000, 330, 30)
-    },
+    looping("loops", 117, 6000, 160, 0),
+    looping("probes", 120, 2000, 330, 30),
     group("recursive", 104, 1000, 100, 20),
-    Group {
-        wanted: 3,
-        ..group("recursive", 118, 3000, 60, 0)
-    },
+    looping("recursive", 118, 3000, 60, 0),
     group("left", 105, 1000, 120, 20),
     group("skips", 106, 1000, 100, 30),
     group("modifying", 107, 600, 40, 10),
@@ -61,10 +60,7 @@ const GENERATED: [Group; 21] = [
     group("names", 109, 1500, 120, 30),
     group("ties", 110, 1500, 100, 10),
     group("counts", 111, 1500, 120, 30),
-    Group {
-        wanted: 3,
-        ..group("counts", 119, 4000, 60, 0)
-    },
+    looping("counts", 119, 4000, 60, 0),
     group("clear", 112, 1500, 120, 40),
     group("bits", 113, 1000, 80, 20),
     Group {

@@ -60,7 +60,16 @@ fn named_nest(nodes: u32) -> Grammar {
     b.g
 }
 
-/// Behind `"a" ~`, where the left search does not go: nested nodes over a name that is remembered.
+/// A rule `"a" ~` and nested nodes over a name behind it, where the left search does not go.
+fn nest_behind(b: &mut Builder, nested: u32, name: &str, rule: &[u8]) {
+    let first = b.str("a");
+    let name = b.ident(name);
+    let deep = b.nested(kind::POS_PRED, nested, name);
+    let root = b.seq(first, deep);
+    b.rule(rule, root);
+}
+
+/// Nested nodes over a name that is remembered.
 fn remembered_nest(nested: u32, remembered: bool) -> Grammar {
     let mut b = Builder::default();
     let q = b.str("q");
@@ -69,22 +78,14 @@ fn remembered_nest(nested: u32, remembered: bool) -> Grammar {
         let name = b.ident("q");
         b.rule(b"s", name);
     }
-    let first = b.str("a");
-    let name = b.ident("q");
-    let deep = b.nested(kind::POS_PRED, nested, name);
-    let root = b.seq(first, deep);
-    b.rule(b"top", root);
+    nest_behind(&mut b, nested, "q", b"top");
     b.g
 }
 
 /// The same, the name being of a rule that is open.
 fn open_nest(nested: u32) -> Grammar {
     let mut b = Builder::default();
-    let first = b.str("a");
-    let name = b.ident("r");
-    let deep = b.nested(kind::POS_PRED, nested, name);
-    let root = b.seq(first, deep);
-    b.rule(b"r", root);
+    nest_behind(&mut b, nested, "r", b"r");
     b.g
 }
 
