@@ -102,7 +102,7 @@ unfolding loopReports
 loop-reports-more [] n s = refl
 loop-reports-more (p ∷ ps) n s = ap (λ (xs : List ℕ). loopReport (p .node) (p .state) ∷ xs) (loop-reports-more ps n s)
 
-loop-reports-length : (ps : List Pair) → length (loopReports ps) ≡ length ps
+pub loop-reports-length : (ps : List Pair) → length (loopReports ps) ≡ length ps
 unfolding loopReports
 loop-reports-length [] = refl
 loop-reports-length (p ∷ ps) = ap suc (loop-reports-length ps)

@@ -1,0 +1,2 @@
+-- What the members of the cycle ask and promise.
+pub mod Promise
