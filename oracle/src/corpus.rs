@@ -30,18 +30,25 @@ pub fn write(cases: &[Case]) -> Vec<u8> {
     let mut bytes = vec![];
     put(&mut bytes, &[cases.len() as u32]);
     for case in cases {
-        put(&mut bytes, &[case.image.len() as u32]);
-        bytes.extend(&case.image);
-        let Places {
-            outcome,
-            walked,
-            report,
-        } = case.places;
-        let count = case.reports.len() as u32;
-        put(&mut bytes, &[outcome, walked, report, case.refusal, count]);
-        for r in &case.reports {
-            bytes.extend(r.to_le_bytes());
-        }
+        bytes.extend(write_case(case));
+    }
+    bytes
+}
+
+/// The bytes of a case.
+pub fn write_case(case: &Case) -> Vec<u8> {
+    let mut bytes = vec![];
+    put(&mut bytes, &[case.image.len() as u32]);
+    bytes.extend(&case.image);
+    let Places {
+        outcome,
+        walked,
+        report,
+    } = case.places;
+    let count = case.reports.len() as u32;
+    put(&mut bytes, &[outcome, walked, report, case.refusal, count]);
+    for r in &case.reports {
+        bytes.extend(r.to_le_bytes());
     }
     bytes
 }

@@ -15,3 +15,4 @@ pub mod model;
 pub mod notation;
 pub mod record;
 pub mod rng;
+pub mod stream;

@@ -4,7 +4,7 @@ use std::io::Write;
 
 use oracle::cases::claims::{CLAIMS, STARRED};
 use oracle::{
-    answers, bits, cases, compare, corpus, edits, explain, gen, image, judge, model, record,
+    answers, bits, cases, compare, corpus, edits, explain, gen, image, judge, model, record, stream,
 };
 
 const USAGE: &str = "\
@@ -15,6 +15,7 @@ oracle compare SEED COUNT [KIND..]       Rust against model on COUNT generated i
 oracle claims                            document 01's starred cases and claims about the Rust
 oracle sides                             the model's answers at the sides of each limit
 oracle record FILE                       writes the recorded corpus, and FILE.txt about it
+oracle stream SEED COUNT [KIND..]        a corpus of COUNT generated images a kind, to standard output
 oracle replay FILE                       the model's and the Rust's answers against a corpus
 oracle answers FILE LIST                 the Rust's answers on a corpus, for `oracle/mutants`
 oracle edits SOURCES                     single-place changes of the Rust, one a line
@@ -39,6 +40,7 @@ fn run() -> i32 {
         ["claims"] => claims(),
         ["sides"] => sides(),
         ["record", file] => record(file),
+        ["stream", seed, count, kinds @ ..] => stream(number(seed), number(count) as u32, kinds),
         ["replay", file] => replay(file),
         ["answers", file, list] => answers(file, list),
         ["edits", sources] => list_edits(sources),
@@ -110,11 +112,18 @@ fn generate(kind: &str, seed: u64, count: u32, dir: &str) -> i32 {
     0
 }
 
+/// The kinds asked for, or all.
+fn asked<'a>(kinds: &[&'a str]) -> Vec<&'a str> {
+    if kinds.is_empty() {
+        gen::KINDS.iter().copied().chain(["damaged"]).collect()
+    } else {
+        kinds.to_vec()
+    }
+}
+
 fn compare(seed: u64, count: u32, kinds: &[&str]) -> i32 {
-    let all: Vec<&str> = gen::KINDS.iter().copied().chain(["damaged"]).collect();
-    let kinds = if kinds.is_empty() { &all } else { kinds };
     let mut differences = 0;
-    for kind in kinds {
+    for kind in asked(kinds) {
         let seen = compare::kind(kind, seed, count);
         println!(
             "{kind}: {} images, {} held against the whole validator, {} against the stack pass; \
@@ -203,6 +212,20 @@ fn record(file: &str) -> i32 {
     std::fs::write(file, bytes).expect("room to write");
     std::fs::write(format!("{file}.txt"), text).expect("room to write");
     i32::from(!record.seen.differences.is_empty())
+}
+
+/// Cases to standard output, and how the Rust and the model agree on them to standard error.
+fn stream(seed: u64, count: u32, kinds: &[&str]) -> i32 {
+    let mut out = std::io::BufWriter::new(std::io::stdout().lock());
+    let seen = stream::write(&mut out, seed, count, &asked(kinds)).expect("room to write");
+    eprintln!(
+        "{} images, {} held against the whole validator, {} against its stack pass: {} differences",
+        seen.images,
+        seen.whole,
+        seen.stack_only,
+        seen.differences.len()
+    );
+    i32::from(!seen.differences.is_empty())
 }
 
 fn replay(file: &str) -> i32 {

@@ -1,7 +1,7 @@
 //! The oracle holds together: claims, Rust against model, images there and back, the recorded corpus.
 
 use oracle::cases::claims::{CLAIMS, STARRED};
-use oracle::{compare, corpus, gen, image, model};
+use oracle::{compare, corpus, gen, image, model, stream};
 
 /// Runs on a stack that is deep enough for the Rust's recursion.
 fn deep(work: fn()) {
@@ -58,10 +58,27 @@ fn the_corpus_is_what_the_model_says() {
         let bytes = std::fs::read("corpus/corpus.bin").expect("the corpus");
         let cases = corpus::read(&bytes);
         assert_eq!(corpus::write(&cases), bytes);
-        for case in &cases {
-            let answer = model::check(&case.image, case.places);
-            let again = corpus::Case::new(&case.image, case.places, &answer);
-            assert_eq!(&again, case);
-        }
+        answered_so(&cases);
     });
+}
+
+#[test]
+fn a_stream_is_such_a_corpus() {
+    deep(|| {
+        let mut bytes = vec![];
+        let seen = stream::write(&mut bytes, 9, 20, &["small", "deep", "damaged"]);
+        assert_eq!(seen.expect("room").differences, Vec::<String>::new());
+        let cases = corpus::read(&bytes);
+        assert_eq!(cases.len(), 60);
+        answered_so(&cases);
+    });
+}
+
+/// The model gives these answers.
+fn answered_so(cases: &[corpus::Case]) {
+    for case in cases {
+        let answer = model::check(&case.image, case.places);
+        let again = corpus::Case::new(&case.image, case.places, &answer);
+        assert_eq!(&again, case);
+    }
 }

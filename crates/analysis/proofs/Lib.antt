@@ -9,3 +9,4 @@ pub mod Loops
 pub mod Searches
 pub mod Repeats
 pub mod WholePass
+pub mod Unique

@@ -1,10 +1,10 @@
 -- The rules walked in order, and what the whole pass leaves of the lent tables. Assumes nothing.
 use mathlib.Core.Path.{_≡_, refl, sym, ap, subst, _∙_}
 use mathlib.Core.Bool.{Bool, true, false}
-use mathlib.Core.List.{List, append-nil}
-use Prim.Native.Nat.{ℕ, suc, _+_, _-_, _*_, _≤_, _<_}
+use mathlib.Core.List.{List, _++_, append-nil}
+use Prim.Native.Nat.{ℕ, suc, _+_, _-_, _*_, _/_, _≤_, _<_}
 use native.Mathlib.Omega.{arith}
-use lib.ListN.{length, take, drop, drop-of-length-le}
+use lib.ListN.{length, take, drop, drop-of-length-le, length-append}
 use lib.Seq.{drop-cons, length-take-le, getD-take}
 use Rattle.stack.specs.declared.AbsStack.{AbsStack}
 use Rattle.stack.specs.State.{entry, maxLen}
@@ -19,18 +19,18 @@ use Rattle.outcomes.specs.Promise.{outcomeOf}
 use Rattle.reading.specs.Promise as Reading
 use Rattle.tables.specs.Bytes.{zeros, Small}
 use Rattle.tables.specs.Places.{places}
-use Rattle.tables.specs.Words.{words, laid}
+use Rattle.tables.specs.Words.{words, laid, Holds}
 use Rattle.tables.proofs.Bytes.{leAt-lt}
-use Rattle.tables.proofs.Laid.{Fit, small-laid}
+use Rattle.tables.proofs.Laid.{Fit, small-laid, laid-holds}
 use Rattle.tables.proofs.Words.{words-length, words-at}
 use Rattle.standing.specs.Stands.{Lent, Tables, Stands}
 use Rattle.standing.specs.Answers.{setupFor, tables, Standing, GivenIf, Answering, Along}
 use Rattle.standing.proofs.Along.{along-start, along-on, along-answer, answer-standing, refused-on, answering-by, answer-now}
-use Rattle.standing.proofs.Moves.{start-stands}
+use Rattle.standing.proofs.Moves.{start-stands, loop-reports-length}
 use Rattle.turns.specs.declared.Placed.{Placed}
 use Rattle.analysis.specs.declared.Ctx.{Ctx}
 use Rattle.analysis.specs.declared.Ans.{Ans}
-use Rattle.analysis.specs.Promise.{Ready, Asked, Begins, Reported, PassedIf, StackPassed}
+use Rattle.analysis.specs.Promise.{Ready, Asked, Begins, PassedIf, StackPassed}
 use Rattle.analysis.proofs.On.{answer-along, along-from}
 use Rattle.analysis.proofs.Parts.{counted}
 use Rattle.analysis.proofs.Loops.{Long}
@@ -78,16 +78,20 @@ module _ (image : List ℕ) (T₀ : Tables) (c : Ctx) (s : AbsStack) where
             comes = along-on (k .comes) (along-from (answer-along (λ S o W₁. rulesFrom (suc i) S W₁) (outcomeOf (a .out)) (λ x j. sym (j .outcome)) asked z) one-rule);
           })
 
+-- the reports of a world fit the table
+stands-room : {L : Lent} {T : Tables} {count : ℕ} {W : World} → Stands L T count W → length (L .before ++ loopReports (W .reports)) ≤ L .reports / 8
+stands-room {L} {T} {count} {W} h = omega (arith, h .counted, h .fitted, length-append (L .before) (loopReports (W .reports)), loop-reports-length (W .reports))
+
 -- what a report table holds before the pass
-module _ (table : List ℕ) (count : ℕ) (h : Reported table count) where
+module _ (table : List ℕ) (count : ℕ) (h : Holds table (take count (words table))) (room : count ≤ places 8 table) where
   found-long : length (take count (words table)) ≡ count
-  found-long = length-take-le count (words table) (omega (arith, words-length table, h .room))
+  found-long = length-take-le count (words table) (omega (arith, words-length table, room))
 
   found-fit : Fit (take count (words table))
   found-fit i l =
       let inside : i < count = omega (arith, found-long) in
       let small : Small table = subst Small (sym (h .bytes)) (small-laid (length table) (take count (words table))) in
-      rw (getD-take count (words table) i 0 inside, words-at table i (omega (arith, h .room))) (leAt-lt 8 table (i * 8) small)
+      rw (getD-take count (words table) i 0 inside, words-at table i (omega (arith, room))) (leAt-lt 8 table (i * 8) small)
 
   module _ (memo walked : List ℕ) where
     -- the tables as they are lent
@@ -98,7 +102,7 @@ module _ (table : List ℕ) (count : ℕ) (h : Reported table count) where
     begin-stands =
         subst (λ (n : ℕ). Stands lent (tables (zeros (length memo)) (zeros (length walked)) table (zeros 2048)) n nothingYet) found-long
         (subst (λ (t : List ℕ). Stands lent (tables (zeros (length memo)) (zeros (length walked)) t (zeros 2048)) (length (take count (words table))) nothingYet) (sym (h .bytes))
-        (start-stands lent found-fit (omega (arith, found-long, h .room))))
+        (start-stands lent found-fit (omega (arith, found-long, room))))
 
     module _ {memo₁ walked₁ : List ℕ} (me : memo₁ ≡ zeros (length memo)) (we : walked₁ ≡ zeros (length walked)) where
       cleared-stands : Stands lent (tables memo₁ walked₁ table (zeros 2048)) count nothingYet
@@ -119,7 +123,11 @@ module _ (table : List ℕ) (count : ℕ) (h : Reported table count) where
           record {
             outcomes-zero = me;
             walked-zero = we;
-            reports = rw e ((λ i. record { refusal = 0; count = counts i }), h .bytes ∙ ap (laid (length table)) (sym (append-nil (take count (words table)))));
+            reports = rw e (
+              (λ i. record { refusal = 0; count = counts i }),
+              h .bytes ∙ ap (laid (length table)) (sym (append-nil (take count (words table)))),
+              rw (append-nil (take count (words table))) h,
+            );
           }
         where
           counts : count ≡ length (take count (words table)) + 0
@@ -161,4 +169,8 @@ module _ (table : List ℕ) (count : ℕ) (h : Reported table count) where
               go : (d : Answer (Unit {0})) → GivenIf lent (tables memo₁ walked₁ table (zeros 2048)) (λ u. Unit {0}) (p .refusal) (p .count) (tables memo₂ walked₂ table₂ marks₂) d
                   → PassedIf (length table) (take count (words table)) p table₂ d
               go (refused k) g = absurd (let q = g .0 in let l = g .1 in omega (arith, z))
-              go (given u W) g = ((λ i. record { refusal = z i; count = g .2 .counted i }), g .2 .words)
+              go (given u W) g = (
+                (λ i. record { refusal = z i; count = g .2 .counted i }),
+                g .2 .words,
+                rw (g .2 .words) (laid-holds (length table) (take count (words table) ++ loopReports (W .reports)) (g .2 .fit) (stands-room (g .2))),
+              )

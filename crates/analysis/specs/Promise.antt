@@ -20,7 +20,7 @@ use Rattle.starts.specs.Promise.{Numbered}
 use Rattle.reading.specs.Promise as Reading
 use Rattle.tables.specs.Bytes.{zeros}
 use Rattle.tables.specs.Places.{places}
-use Rattle.tables.specs.Words.{words, laid}
+use Rattle.tables.specs.Words.{words, laid, Holds}
 use Rattle.standing.specs.Stands.{Tables}
 use Rattle.standing.specs.Answers.{Standing, Answering, Along}
 use Rattle.turns.specs.declared.Ran.{Ran}
@@ -78,16 +78,11 @@ pub record Begins (c : Ctx) (s : AbsStack) : Type 0 where
   pub walks : c .walking ≡ true
   pub state : stateOf s ≡ entry
 
--- the first `count` words of a report table, and every other byte zero
-pub record Reported (table : List ℕ) (count : ℕ) : Type 0 where
-  pub bytes : table ≡ laid (length table) (take count (words table))
-  pub room : count ≤ places 8 table
-
 -- what the pass leaves, by the definition's answer: on a refusal no report and every byte zero
 abbrev pub PassedIf : ℕ → List ℕ → Placed → List ℕ → Answer (Unit {0}) → Type 0
 PassedIf size found r table′ (refused k) = (r ≡ record { refusal = k; count = 0 }) × (table′ ≡ zeros size)
 PassedIf size found r table′ (given u W) =
-    (r ≡ record { refusal = 0; count = length found + length (W .reports) }) × (table′ ≡ laid size (found ++ loopReports (W .reports)))
+    (r ≡ record { refusal = 0; count = length found + length (W .reports) }) × (table′ ≡ laid size (found ++ loopReports (W .reports))) × Holds table′ (found ++ loopReports (W .reports))
 
 -- "Both work tables are zero on every return", and the report table holds the definition's reports behind those that it held
 pub record StackPassed (image memo walked table : List ℕ) (count : ℕ) (r : Placed) (memo′ walked′ table′ : List ℕ) : Type 0 where

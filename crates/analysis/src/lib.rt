@@ -28,7 +28,7 @@ ghost use mathlib.Core.List.{List, [], _∷_};
 ghost use mathlib.Core.Option.{none};
 ghost use Prim.Native.Nat.{ℕ, suc, _+_, _-_, _<_, _≤_};
 ghost use lib.Dec.{ltb};
-ghost use lib.ListN.{length};
+ghost use lib.ListN.{length, take};
 ghost use Rattle.stack.specs.State.{State, maxLen};
 ghost use Rattle.stack.specs.Promise.{stateOf, WellFormed};
 ghost use Rattle.image.specs.Grammar.{grammar};
@@ -38,13 +38,14 @@ ghost use Rattle.asking.specs.Runs.{next, ends, stepsGo, steps, greedyGo, greed
 ghost use Rattle.asking.specs.Ask.{visit, step, stepKind, seqRest, choiceRest, repeatUnbounded, repeatBounded, searched, starts, searchSteps};
 ghost use Rattle.outcomes.specs.Promise.{maybeOf, FormedMaybe};
 ghost use Rattle.asking.specs.StackPass.{walkRules};
+ghost use Rattle.tables.specs.Places.{places};
+ghost use Rattle.tables.specs.Words.{words, Holds};
 ghost use Rattle.reading.specs.Promise as Reading;
 ghost use Rattle.reading.specs.Names.{nameIs, NameBelow};
 ghost use Rattle.starts.specs.Promise.{startsOf, Numbered};
-ghost use Rattle.standing.specs.Stands.{keyOf};
 ghost use Rattle.standing.specs.Answers.{tables, Answering};
 ghost use Rattle.turns.specs.Promise.{wrapOf};
-ghost use Rattle.analysis.specs.Promise.{Ready, Node, isLoop, Asked, RanSo, Turned, HuntTurned, Begins, Reported, StackPassed};
+ghost use Rattle.analysis.specs.Promise.{Ready, Node, isLoop, Asked, RanSo, Turned, HuntTurned, Begins, StackPassed};
 
 // What goes down with a question: the nodes that may still open, whether repetitions met are checked and reported, whether there are
 // skips, and the reports so far.
@@ -92,14 +93,6 @@ fn answer(out: Outcome, count: usize) -> Ans
         count: count,
         out: out,
     }
-}
-
-// The key of a node and a state.
-fn key(n: usize, s: AbsStack) -> u64
-    requires { ⌜ (n < 2048) × WellFormed maxLen s ⌝ }
-    ensures { λ r. ⌜ r ≡ keyOf n (stateOf s) ⌝ }
-{
-    (n as u64) * 32768 + (pack(s) as u64) + 1
 }
 
 // Under skips a repetition is not empty, unless its most is 1 or less.
@@ -160,7 +153,7 @@ fn visit(
     if !c.walking {
         return outcome(image, names, memo, walked, table, marks, c, n, s);
     }
-    let k = key(n, s);
+    let k = turns::key(n, s);
     let p = tables::find4(walked, k);
     match p {
         Probe::Found(_) => outcome(image, names, memo, walked, table, marks, c, n, s),
@@ -193,10 +186,11 @@ fn outcome(
     requires { ⌜ Ready (now image) (now names) (tables (now memo) (now walked) (now table) (now marks)) c s × Node (now image) n ⌝ }
     ensures { λ r. ⌜ Asked (now (image .entry)) (tables (now (memo .entry)) (now (walked .entry)) (now (table .entry)) (now (marks .entry))) c (λ S W. visit S (c .left) false n (stateOf s) W) r (tables (now (memo .exit)) (now (walked .exit)) (now (table .exit)) (now (marks .exit))) ⌝ }
 {
-    if c.left == 0 {
+    let left = c.left;
+    if left == 0 {
         return refused(12, c.count);
     }
-    let k = key(n, s);
+    let k = turns::key(n, s);
     let p = tables::find8(memo, k);
     match p {
         Probe::Found(i) => {
@@ -209,7 +203,7 @@ fn outcome(
         Probe::Free(i) => {
             tables::enter8(memo, i, k, 0);
             let inner = Ctx {
-                left: c.left - 1,
+                left: left - 1,
                 walking: false,
                 skips: c.skips,
                 count: c.count,
@@ -498,7 +492,7 @@ fn repeat(
     requires { ⌜ Ready (now image) (now names) (tables (now memo) (now walked) (now table) (now marks)) c s × Node (now image) part × Node (now image) n ⌝ }
     ensures { λ r. ⌜ Asked (now (image .entry)) (tables (now (memo .entry)) (now (walked .entry)) (now (table .entry)) (now (marks .entry))) c (λ S W. repeatUnbounded S (visit S (c .left)) (c .walking) n part required (stateOf s) W) r (tables (now (memo .exit)) (now (walked .exit)) (now (table .exit)) (now (marks .exit))) ⌝ }
 {
-    let f = seek(image, names, memo, walked, table, marks, c, n, part, s);
+    let f = search_loop(image, names, memo, walked, table, marks, c, n, part, s);
     if f.refusal != 0 {
         return refused(f.refusal, f.count);
     }
@@ -642,7 +636,7 @@ fn repeat_bounded(
 }
 
 // While walking, an unbounded repetition that loops is reported.
-fn seek(
+fn search_loop(
     image: &[u8],
     names: &[u16; 2048],
     memo: &mut [u8],
@@ -706,7 +700,7 @@ fn steps(
     while 0 < left {
         let mut on = c;
         on.count = count;
-        let t = turn(
+        let t = steps_turn(
             image,
             names,
             memo,
@@ -743,7 +737,7 @@ fn steps(
 }
 
 // One copy of a bounded run: a start that comes again ends it, by its period.
-fn turn(
+fn steps_turn(
     image: &[u8],
     names: &[u16; 2048],
     memo: &mut [u8],
@@ -769,7 +763,7 @@ fn turn(
             if run.count == 64 {
                 return stopped(11, c.count, at);
             }
-            copy(
+            steps_copy(
                 image,
                 names,
                 memo,
@@ -788,7 +782,7 @@ fn turn(
 }
 
 // A copy that begins with a new start.
-fn copy(
+fn steps_copy(
     image: &[u8],
     names: &[u16; 2048],
     memo: &mut [u8],
@@ -846,7 +840,7 @@ fn greedy(
     loop {
         let mut on = c;
         on.count = count;
-        let t = roam(
+        let t = greedy_turn(
             image,
             names,
             memo,
@@ -875,7 +869,7 @@ fn greedy(
 }
 
 // One copy of a greedy run: a start that comes again ends it.
-fn roam(
+fn greedy_turn(
     image: &[u8],
     names: &[u16; 2048],
     memo: &mut [u8],
@@ -910,7 +904,7 @@ fn roam(
             if run.count == 64 {
                 return stopped(11, c.count, at);
             }
-            try_copy(
+            greedy_copy(
                 image,
                 names,
                 memo,
@@ -929,7 +923,7 @@ fn roam(
 }
 
 // A copy of a greedy run that begins with a new start.
-fn try_copy(
+fn greedy_copy(
     image: &[u8],
     names: &[u16; 2048],
     memo: &mut [u8],
@@ -996,7 +990,7 @@ fn loops_forever(
     while 0 < left {
         let mut on = c;
         on.count = count;
-        let h = hunt(
+        let h = search_turn(
             image,
             names,
             memo,
@@ -1025,7 +1019,7 @@ fn loops_forever(
 }
 
 // One step of the search for a loop.
-fn hunt(
+fn search_turn(
     image: &[u8],
     names: &[u16; 2048],
     memo: &mut [u8],
@@ -1134,7 +1128,7 @@ pub fn stack_pass(
     table: &mut [u8],
     count: usize,
 ) -> Placed
-    requires { ⌜ Reading.Ready (now image) (now names) × Reported (now table) count ⌝ }
+    requires { ⌜ Reading.Ready (now image) (now names) × Holds (now table) (take count (words (now table))) × (count ≤ places 8 (now table)) ⌝ }
     ensures { λ r. ⌜ StackPassed (now (image .entry)) (now (memo .entry)) (now (walked .entry)) (now (table .entry)) count r (now (memo .exit)) (now (walked .exit)) (now (table .exit)) ⌝ }
 {
     tables::clear(memo);

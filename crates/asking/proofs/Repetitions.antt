@@ -1,16 +1,19 @@
--- The nodes that repeat a part without bound are Rep, RepOnce and RepMin of the image. Assumes nothing.
+-- The nodes that repeat a part without bound are Rep, RepOnce and RepMin of the image, and no numbers past its nodes. Assumes nothing.
 use mathlib.Core.Path.{_≡_, refl, sym, ap, _∙_}
 use mathlib.Core.Bool.{Bool, true, false, not, cond, false≢true}
 use mathlib.Core.List.{List}
 use mathlib.Core.Logic.{_⊎_, inl, inr}
-use Prim.Native.Nat.{ℕ}
-use lib.Dec.{eqb}
+use Prim.Native.Nat.{ℕ, _<_, _≤_}
+use native.Mathlib.Omega.{arith}
+use lib.Dec.{eqb, ltb}
+use lib.ListN.{length, List·getD-eq-default}
+use borrow.Author.Tests.{ltb-true, ltb-false}
 use Rattle.image.specs.declared.expr.Expr.{Expr}
 use Rattle.image.specs.declared.expr.Expr.the-variants.{Str, Insens, Range, Ident, PeekSlice, PosPred, NegPred, Seq, Choice, Opt, Rep, RepOnce, RepExact, RepMin, RepMax, RepMinMax, Push, PushLiteral, NodeTag}
 use Rattle.image.specs.declared.access.Found.{Found}
 use Rattle.image.specs.declared.access.Found.the-variants.{At, Nothing}
 use Rattle.image.specs.Lists.{same}
-use Rattle.image.specs.Grammar.{Grammar, exprAt, textOf, findRule}
+use Rattle.image.specs.Grammar.{Grammar, Node, noNode, exprAt, textOf, findRule}
 use Rattle.machine.specs.Kind as K
 use Rattle.asking.specs.Reading.{PEEK, PEEK-ALL, POP, POP-ALL, DROP, foundKind, nameKind, textKind, sliceKind, kindOf, nodesOf}
 
@@ -101,3 +104,20 @@ unbounded-repeats g (NodeTag a) part required k = absurd (not-unbounded (K.NodeT
 pub node-repeats : (g : Grammar) (n part required : ℕ) → nodesOf g .at n ≡ K.Unbounded part required → Repeats part (exprAt g n)
 unfolding nodesOf
 node-repeats g n part required k = unbounded-repeats g (exprAt g n) part required k
+
+-- past the last node stands a Range, which repeats nothing
+past-range : (g : Grammar) (n : ℕ) → length (g .nodes) ≤ n → exprAt g n ≡ Range
+unfolding exprAt
+past-range g n h = ap (λ (v : Node). v .expr) (List·getD-eq-default (g .nodes) noNode h)
+
+range-not : (part : ℕ) (e : Expr) → e ≡ Range → Repeats part e → ⊥
+range-not part e q (inl r) = let z : _≡_ {A = ℕ} 0 1 = cc in omega arith
+range-not part e q (inr (inl r)) = let z : _≡_ {A = ℕ} 0 1 = cc in omega arith
+range-not part e q (inr (inr (count, r))) = let z : _≡_ {A = ℕ} 0 1 = cc in omega arith
+
+pub repetition-node : (g : Grammar) (n part : ℕ) → Repeats part (exprAt g n) → n < length (g .nodes)
+repetition-node g n part h = go (ltb n (length (g .nodes))) refl
+  where
+    go : (t : Bool) → ltb n (length (g .nodes)) ≡ t → n < length (g .nodes)
+    go true e = ltb-true n (length (g .nodes)) e
+    go false e = absurd (range-not part (exprAt g n) (past-range g n (omega (arith, ltb-false n (length (g .nodes)) e))) h)

@@ -1,14 +1,12 @@
--- Every node that a pass names is a node of the grammar: the nodes that are walked top down, the judged sides, the Ident that is
--- found, and the repetition that loops. Assumes nothing.
-use mathlib.Core.Path.{_≡_, refl, ap}
+-- Every node that a pass names is a node of the grammar: the nodes that are walked top down, the judged sides, and the Ident that is
+-- found. Assumes nothing.
+use mathlib.Core.Path.{_≡_, refl}
 use mathlib.Core.Bool.{Bool, true, false, cond, false≢true}
 use mathlib.Core.List.{List, [], _∷_}
-use mathlib.Core.Logic.{inl, inr}
-use Prim.Native.Nat.{ℕ, zero, suc, _<_, _≤_}
+use Prim.Native.Nat.{ℕ, zero, suc, _<_}
 use native.Mathlib.Omega.{arith}
 use lib.Dec.{eqb, ltb}
-use lib.ListN.{length, List·getD-eq-default}
-use borrow.Author.Tests.{ltb-true, ltb-false}
+use lib.ListN.{length}
 use Rattle.image.specs.declared.expr.Expr.{Expr}
 use Rattle.image.specs.declared.expr.Expr.the-variants.{Str, Insens, Range, Ident, PeekSlice, PosPred, NegPred, Seq, Choice, Opt, Rep, RepOnce, RepExact, RepMin, RepMax, RepMinMax, Push, PushLiteral, NodeTag}
 use Rattle.image.specs.declared.access.Found.{Found}
@@ -16,10 +14,9 @@ use Rattle.image.specs.declared.access.Found.the-variants.{At, Nothing}
 use Rattle.image.specs.Lists.{AllBelow}
 use Rattle.image.specs.Kinds.{numbersOf, partsOf}
 use Rattle.image.specs.Verdict.{passable}
-use Rattle.image.specs.Grammar.{Grammar, Rule, Node, noNode, noRule, exprAt, bitsAt, rootAt, textOf, findRule, Says}
+use Rattle.image.specs.Grammar.{Grammar, Rule, noRule, exprAt, bitsAt, rootAt, textOf, findRule, Says}
 use Rattle.image.specs.Formed.{Formed}
 use Rattle.image.proofs.FindLaws.{says}
-use Rattle.asking.proofs.Repetitions.{Repeats}
 use Rattle.passes.specs.TopDown.{partsDown, down, topDown, nodesDown, isChoice, judgedSide}
 use Rattle.passes.specs.LeftRecursion.{Sought, Seeker, isOn, orIf, orElse, checkOn, checkRule, checkName, checkSeq, checkExpr, enterIf, enter, openNodes, searchFrom}
 use Rattle.demands.proofs.Lists.{Every, every-numbered, every-or-none, every-flat}
@@ -49,23 +46,6 @@ choice-below n (RepMinMax part least most) e h = absurd (false≢true e)
 choice-below n (Push part) e h = absurd (false≢true e)
 choice-below n (PushLiteral at len) e h = absurd (false≢true e)
 choice-below n (NodeTag part) e h = absurd (false≢true e)
-
--- past the last node stands a Range, which repeats nothing
-past-range : (g : Grammar) (n : ℕ) → length (g .nodes) ≤ n → exprAt g n ≡ Range
-unfolding exprAt
-past-range g n h = ap (λ (v : Node). v .expr) (List·getD-eq-default (g .nodes) noNode h)
-
-range-not : (part : ℕ) (e : Expr) → e ≡ Range → Repeats part e → ⊥
-range-not part e q (inl r) = let z : _≡_ {A = ℕ} 0 1 = cc in omega arith
-range-not part e q (inr (inl r)) = let z : _≡_ {A = ℕ} 0 1 = cc in omega arith
-range-not part e q (inr (inr (count, r))) = let z : _≡_ {A = ℕ} 0 1 = cc in omega arith
-
-pub repetition-node : (g : Grammar) (n part : ℕ) → Repeats part (exprAt g n) → IsNode g n
-repetition-node g n part h = go (ltb n (length (g .nodes))) refl
-  where
-    go : (t : Bool) → ltb n (length (g .nodes)) ≡ t → IsNode g n
-    go true e = ltb-true n (length (g .nodes)) e
-    go false e = absurd (range-not part (exprAt g n) (past-range g n (omega (arith, ltb-false n (length (g .nodes)) e))) h)
 
 module _ (g : Grammar) (formed : Formed g) where
   parts-nodes : (n : ℕ) → IsNode g n → (xs : List ℕ) → AllBelow n xs → Every (IsNode g) xs

@@ -23,6 +23,7 @@ use Rattle.asking.specs.Reading.{nodesOf}
 use Rattle.asking.specs.World.{Pair, Answer}
 use Rattle.asking.specs.World as A
 use Rattle.asking.specs.StackPass.{stackPass, loopReports}
+use Rattle.asking.proofs.Repetitions.{repetition-node}
 use Rattle.asking.proofs.Theorems as Asking
 use Rattle.passes.specs.Report.{Result, refused, done, place}
 use Rattle.passes.specs.TopDown.{nodesDown, isRepeat, repeatReport, repetitionAt, isChoice, judgedSide, choiceReport, choiceAt, validateRepetition, validateChoices}
@@ -33,7 +34,7 @@ use Rattle.demands.specs.Report.{nodeIn, stateIn, reasonIn}
 use Rattle.demands.specs.Told.{Told}
 use Rattle.demands.proofs.Lists.{Every, every-append, every-flat, every-ordered, Gives, gives-onward, gives-if, gives-place}
 use Rattle.demands.proofs.ReadBack.{node-back, state-number-back, state-back, reason-back}
-use Rattle.demands.proofs.Nodes.{IsNode, repetition-node, walked-nodes, judged-node, ident-node}
+use Rattle.demands.proofs.Nodes.{IsNode, walked-nodes, judged-node, ident-node}
 
 module _ (g : Grammar) (formed : Formed g) where
   small : (n : ℕ) → IsNode g n → n < 65536

@@ -125,7 +125,7 @@ parts-none g n q = record { is = rw (eq-eqb (numbersOf (exprAt g n) .kind) 19 q)
 pub parts-all : (g : Grammar) (n : ℕ) (ps : Parts) → (numbersOf (exprAt g n) .kind ≡ 19 → ⊥) → listed ps ≡ partsOf (exprAt g n) → AllBelow n (partsOf (exprAt g n)) → PartsDown g n ps
 parts-all g n ps q e h = record { is = rw (ne-eqb (numbersOf (exprAt g n) .kind) 19 q) e; below = rw e h }
 
-below-down : (n : ℕ) (e : Expr) → AllBelow n (partsOf e) → AllBelow n (partsDown e)
+pub below-down : (n : ℕ) (e : Expr) → AllBelow n (partsOf e) → AllBelow n (partsDown e)
 below-down n e h = go (eqb (numbersOf e .kind) 19)
   where
     go : (b : Bool) → AllBelow n (cond b [] (partsOf e))
@@ -138,14 +138,14 @@ unfolding flat
 flat-append f [] ys = refl
 flat-append f (x ∷ xs) ys = rw (flat-append f xs ys) (sym (append-assoc (f x) (flat f xs) (flat f ys)))
 
-flat-same : (n : ℕ) (D E : ℕ → List ℕ) (ps : List ℕ) → AllBelow n ps → ((p : ℕ) → p < n → D p ≡ E p) → flat D ps ≡ flat E ps
+pub flat-same : (n : ℕ) (D E : ℕ → List ℕ) (ps : List ℕ) → AllBelow n ps → ((p : ℕ) → p < n → D p ≡ E p) → flat D ps ≡ flat E ps
 unfolding flat
 flat-same n D E [] w h = refl
 flat-same n D E (p ∷ ps) w h = rw (h p (w .0), flat-same n D E ps (w .1) h)
 
 module _ (g : Grammar) (formed : Formed g) where
   -- any two bounds above the node give the same list
-  down-same : (a b n : ℕ) → n < a → n < b → n < length (g .nodes) → down g a n ≡ down g b n
+  pub down-same : (a b n : ℕ) → n < a → n < b → n < length (g .nodes) → down g a n ≡ down g b n
   unfolding down
   down-same zero b n p q k = absurd (omega arith)
   down-same (suc a) zero n p q k = absurd (omega arith)

@@ -12,11 +12,11 @@ use lib.Seq.{take-suc-set, append-snoc}
 use borrow.Author.Tests.{lt-ltb, le-ltb, eq-eqb, ne-eqb, ltb-true, ltb-false, leb-true, leb-false}
 use Rattle.tables.specs.Bytes.{setLe}
 use Rattle.tables.specs.Places.{places}
-use Rattle.tables.specs.Words.{words, laid, Stored}
+use Rattle.tables.specs.Words.{words, laid, Stored, Holds}
 use Rattle.tables.proofs.Bytes.{length-setLe}
 use Rattle.tables.proofs.Words.{words-length}
 use Rattle.passes.specs.Report.{Result, refused, done, place, placeIf}
-use Rattle.passes.specs.Promise.{Held, held, placed, placeAll, Holds, Filled, Placed}
+use Rattle.passes.specs.Promise.{Held, held, placed, placeAll, Filled, Placed}
 use Rattle.passes.specs.Steps.{some}
 use Rattle.passes.proofs.Laying.{laid-put}
 

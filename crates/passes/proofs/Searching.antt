@@ -24,7 +24,8 @@ use Rattle.tables.specs.Report.{report}
 use Rattle.tables.proofs.Words.{words-length}
 use Rattle.passes.specs.Report.{Result, refused, done, placeIf}
 use Rattle.passes.specs.LeftRecursion.{Sought, stopped, Seeker, isOn, orElse, checkName, checkExpr, enter, searchFrom, foundIn, ruleFrom, leftRecursion}
-use Rattle.passes.specs.Promise.{Held, held, placed, Holds, foundNumber, RulesNamed, trailRules, trailOf, searchOf, Answers, Ran, ran, orTen, ruleInto, nextInto, leftInto, ranOf, Ended, LeftPass}
+use Rattle.tables.specs.Words.{Holds}
+use Rattle.passes.specs.Promise.{Held, held, placed, foundNumber, RulesNamed, trailRules, trailOf, searchOf, Answers, Ran, ran, orTen, ruleInto, nextInto, leftInto, ranOf, Ended, LeftPass}
 use Rattle.passes.specs.Steps.{leadFrom, leadOf, LeadAt, ruleAt, follow, hit, begun, routeOf, Longer, Ready}
 use Rattle.passes.specs.declared.left.Lead.{Lead}
 use Rattle.passes.specs.declared.left.Lead.the-variants.{Stop, Name, On, Both, Pair}

@@ -11,7 +11,7 @@ use Rattle.image.specs.declared.access.Found.the-variants.{At, Nothing}
 use Rattle.image.specs.Grammar.{Grammar, Rule, exprAt, textOf, findRule}
 use Rattle.tables.specs.Bytes.{setLe}
 use Rattle.tables.specs.Places.{places}
-use Rattle.tables.specs.Words.{words, spare, laid}
+use Rattle.tables.specs.Words.{words, spare, laid, Holds}
 use Rattle.tables.specs.Report.{report}
 use Rattle.passes.specs.Report.{Result, refused, done, place}
 use Rattle.passes.specs.Order.{ordered}
@@ -39,12 +39,6 @@ placed h x =
 unfoldable pub placeAll : Held → List ℕ → Held
 placeAll h [] = h
 placeAll h (x ∷ xs) = placeAll (placed h x) xs
-
--- the table holds the reports xs: they are its first words, and every other byte is zero
-pub record Holds (t xs : List ℕ) : Type 0 where
-  pub bytes : t ≡ laid (length t) xs
-  pub first-words : take (length xs) (words t) ≡ xs
-  pub room : length xs ≤ places 8 t
 
 -- what a table and its count come to: the reports, or 10, told by a count that is one more than the places
 abbrev pub Filled : Result → List ℕ → ℕ → Type 0

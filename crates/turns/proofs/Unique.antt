@@ -29,6 +29,8 @@ use Rattle.turns.specs.declared.Went.{Went}
 use Rattle.turns.specs.declared.Placed.{Placed}
 use Rattle.turns.specs.declared.Hunting.{Hunting}
 use Rattle.turns.specs.Promise.{Ended, TurnedOnIf, TurnedOn, HuntedIf, HuntedOn, ReportedIf, Reported}
+use Rattle.turns.proofs.key.Kinds as key
+use Rattle.turns.proofs.key.Reads as key-promise
 use Rattle.turns.proofs.wrap.Kinds as wrap
 use Rattle.turns.proofs.wrap.Reads as wrap-promise
 use Rattle.turns.proofs.restored.Kinds as restored
@@ -134,3 +136,8 @@ pub report-unique :
     (κs : Lfts 3) (a : Dens κs report.ps) (x y : resT report.r κs .Denot) (s t : AtExit (endedOf 3 report.ps report.r) κs) →
     report-promise.Post κs a x s → report-promise.Post κs a y t → (x ≡ y) × (now (s .1 .0) ≡ now (t .1 .0)) × (now (s .1 .1 .0) ≡ now (t .1 .1 .0))
 report-unique κs a x y s t p q = reported-one x y p q
+
+pub key-unique :
+    (κs : Lfts 0) (a : Dens κs key.ps) (x y : resT key.r κs .Denot) (s t : AtExit (endedOf 0 key.ps key.r) κs) →
+    key-promise.Post κs a x s → key-promise.Post κs a y t → x ≡ y
+key-unique κs a x y s t p q = p ∙ sym q

@@ -1,4 +1,5 @@
-// The turns of a run that ask nothing: what the outcome of one copy makes of a run, of a search for a loop, and of a report.
+// What the stack pass does without asking: what the outcome of one copy makes of a run, of a search for a loop, and of a report; and the
+// key of a question.
 use outcomes::Maybe;
 use outcomes::Outcome;
 use reading::kinds::held_back;
@@ -18,6 +19,7 @@ ghost use Rattle.image.specs.Promise.{AtNode};
 ghost use Rattle.asking.specs.Runs.{next, ends};
 ghost use Rattle.outcomes.specs.Promise.{maybeOf, outcomeOf, FormedMaybe, Formed, IsMaybe, IsOutcome};
 ghost use Rattle.starts.specs.Promise.{Numbered};
+ghost use Rattle.standing.specs.Stands.{keyOf};
 ghost use Rattle.turns.specs.Promise.{wrapOf, Ended, TurnedOn, HuntedOn, Reported};
 
 // How a run ended: a refusal or 0, the reports so far, the state after it, whether all its copies consumed nothing, and whether a
@@ -252,4 +254,12 @@ pub fn report(
         refusal: 0,
         count: count + 1,
     }
+}
+
+// The key of a node and a state.
+pub fn key(n: usize, s: AbsStack) -> u64
+    requires { ⌜ (n < 2048) × WellFormed maxLen s ⌝ }
+    ensures { λ r. ⌜ r ≡ keyOf n (stateOf s) ⌝ }
+{
+    (n as u64) * 32768 + (pack(s) as u64) + 1
 }
