@@ -1,2 +1,3 @@
 -- The starred cases, by computation.
 pub mod Starred
+pub mod ShutOut
