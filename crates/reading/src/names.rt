@@ -90,9 +90,14 @@ pub fn resolve(image: &[u8], names: &mut [u16; 2048])
     requires { ⌜ ToResolve (now image) (now names) ⌝ }
     ensures { λ _. ⌜ Resolved (grammar (now (image .entry))) (now (names .exit)) ⌝ }
 {
+    let count = node_count(image);
     let mut n = 0;
-    while n < 2048 {
+    while n < count {
         names[n] = word_at(image, n);
+        n += 1;
+    }
+    while n < 2048 {
+        names[n] = 0;
         n += 1;
     }
 }
