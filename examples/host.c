@@ -13,29 +13,11 @@ static uint8_t walked[WORK_PLACES * THATCHNIP_WALKED_PLACE];
 static uint8_t reports[THATCHNIP_REPORTS_MOST * THATCHNIP_REPORT_PLACE];
 
 static const char *const refusals[] = {
-    "done",
-    "image under 24 bytes",
-    "a count over its limit",
-    "a position or the total length is wrong",
-    "a bad node",
-    "a bad rule",
-    "two rules share a name",
-    "the part rule is broken",
-    "no outcome place is free",
-    "no walked place is free",
-    "no report place is free",
-    "a 65th distinct start in one run",
-    "a 257th node open at once",
-    "the left-recursion search enters a 65,537th node"
+#include "refusals.inc"
 };
 
 static const char *const reasons[] = {
-    "no reason",
-    "repetition cannot fail",
-    "repetition does not progress",
-    "stack loop",
-    "choice cannot be reached",
-    "left recursion"
+#include "reasons.inc"
 };
 
 static const char *const bases[] = {"empty", "blank", "any", "no base"};

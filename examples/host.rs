@@ -106,36 +106,19 @@ mod thatchnip {
 /// More than any image of the recorded corpus takes.
 const WORK_PLACES: usize = 131072;
 
-const REFUSALS: [&str; 14] = [
-    "done",
-    "image under 24 bytes",
-    "a count over its limit",
-    "a position or the total length is wrong",
-    "a bad node",
-    "a bad rule",
-    "two rules share a name",
-    "the part rule is broken",
-    "no outcome place is free",
-    "no walked place is free",
-    "no report place is free",
-    "a 65th distinct start in one run",
-    "a 257th node open at once",
-    "the left-recursion search enters a 65,537th node",
-];
+const REFUSALS: &str = include_str!("refusals.inc");
+const REASONS: &str = include_str!("reasons.inc");
 
-const REASONS: [&str; 6] = [
-    "no reason",
-    "repetition cannot fail",
-    "repetition does not progress",
-    "stack loop",
-    "choice cannot be reached",
-    "left recursion",
-];
+/// The text of a number in one of these lists.
+fn text(list: &str, number: usize) -> &str {
+    let line = list.lines().filter(|line| line.starts_with('"')).nth(number);
+    line.unwrap_or("").trim_end_matches(',').trim_matches('"')
+}
 
 const BASES: [&str; 4] = ["empty", "blank", "any", "no base"];
 
 fn print_report(report: &thatchnip::Report) {
-    print!("node {}: {}", report.node, REASONS[report.reason as usize]);
+    print!("node {}: {}", report.node, text(REASONS, report.reason as usize));
     if report.reason == 3 {
         let s = report.state;
         let intact = if s.intact() { "intact" } else { "not intact" };
@@ -167,7 +150,7 @@ fn main() -> ExitCode {
     };
     match thatchnip::check(&image, WORK_PLACES, WORK_PLACES) {
         Err(refusal) => {
-            println!("refused {}: {}", refusal.0, REFUSALS[refusal.0 as usize]);
+            println!("refused {}: {}", refusal.0, text(REFUSALS, refusal.0 as usize));
             ExitCode::from(2)
         }
         Ok(reports) => {
