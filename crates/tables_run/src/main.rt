@@ -4,6 +4,7 @@
 // Line 2: nine 4-byte places and two bytes more, the same 24 asks. 0: new; 1: known; 9: no place is free.
 // Line 3: line 1 again, after `clear`.
 // Line 4: the three words of a report table of 30 bytes, the first written twice and the last never.
+#![tactic(auto)]
 use tables::Probe;
 
 // A digit as a byte of text.
