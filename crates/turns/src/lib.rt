@@ -1,6 +1,7 @@
 // What the stack pass does without asking: what the outcome of one copy makes of a run, of a search for a loop, and of a report; and the
 // key of a question.
 #![tactic(auto)]
+
 ghost use Rattle.std.specs.Prelude.{◌≡◌, true, cond, ◌<◌, eqb, length, get_or, set};
 ghost use Rattle.std.proofs.Math.Option.{none, some};
 ghost use Rattle.stack.specs.State.{max_len};

@@ -1,0 +1,7 @@
+-- `turns::next` meets its contract. Assumes nothing.
+use borrow.Author.Rules.{rules}
+use Rattle.turns.proofs.Copies.{next-optional}
+use Rattle.turns.proofs.next.Goals as goal
+
+pub returns : goal.returns
+returns c = next-optional c.args.at c.args.o c.if-required.false c.of_opt-p.ensures
