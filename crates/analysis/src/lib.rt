@@ -1,5 +1,6 @@
 // The stack pass: what a node comes to when it is entered with a state, remembered in lent tables, and the repetitions that loop.
 // `visit`, `outcome`, `step`, `ident`, `rule` and `repeat` call each other; the number of open nodes left falls at each entry.
+#![tactic(auto)]
 ghost use Rattle.std.specs.Prelude.{◌≡◌, true, false, ◌&&◌, ◌||◌, not, List, [], ◌∷◌, ℕ, suc, ◌+◌, ◌-◌, ◌<◌, ◌≤◌, ltb, length, take};
 ghost use Rattle.std.proofs.Math.Option.{none};
 ghost use Rattle.stack.specs.State.{State, max_len};
@@ -34,7 +35,7 @@ use turns::{Hunting, LoopFound, OnePart, Placed, Ran, Went};
 
 // What goes down with a question: the nodes that may still open, whether repetitions met are checked and reported, whether there are
 // skips, and the reports so far.
-#[derive(Drop)]
+#[derive(Clone, Copy)]
 pub struct Ctx {
     pub left: usize,
     pub walking: bool,
@@ -43,7 +44,7 @@ pub struct Ctx {
 }
 
 // What comes back: a refusal or 0, the reports so far, and the outcome.
-#[derive(Drop)]
+#[derive(Clone, Copy)]
 pub struct Ans {
     pub refusal: u8,
     pub count: usize,

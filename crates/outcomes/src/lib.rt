@@ -1,5 +1,6 @@
 // Outcomes: what asking about a node from a state answers, and the outcome of each construct from those of its parts (document
 // 01, "Outcomes"). Each promise is an equation with a definition of the machine.
+#![tactic(auto)]
 ghost use Rattle.std.specs.Prelude.{◌≡◌, ◌&&◌, ◌||◌, cond};
 ghost use Rattle.std.proofs.Math.Option.{none, some};
 ghost use Rattle.stack.specs.State.{max_len, popped_one};
@@ -12,14 +13,14 @@ use stack::AbsStack;
 pub mod word;
 
 // A state, or nothing: that outcome cannot happen.
-#[derive(Drop)]
+#[derive(Clone, Copy)]
 pub enum Maybe {
     Nothing,
     State(AbsStack),
 }
 
 // The state after a success, the state after a failure, and whether a success consumed nothing.
-#[derive(Drop)]
+#[derive(Clone, Copy)]
 pub struct Outcome {
     pub ok: Maybe,
     pub err: Maybe,

@@ -12,14 +12,14 @@ use image::access::{bits_at, expr_at, root_at, rule_count};
 use image::expr::{Parts, numbers_in, parts_in};
 
 // The rules entered, the first one first.
-#[derive(Drop)]
+#[derive(Clone, Copy)]
 pub struct Trail {
     pub rules: [u16; 257],
     pub len: usize,
 }
 
 // How a search ended (0 nothing found, 1 found, 12 or 13 refused), the Ident found, the nodes entered, and the trail at the find.
-#[derive(Drop)]
+#[derive(Clone, Copy)]
 pub struct Search {
     pub end: u8,
     pub ident: usize,
@@ -28,14 +28,14 @@ pub struct Search {
 }
 
 // A refusal, or 0, and how many reports the table holds.
-#[derive(Drop)]
+#[derive(Clone, Copy)]
 pub struct Passed {
     pub refusal: u8,
     pub count: usize,
 }
 
 // Where the search goes on from a node: nowhere, a name, a part, both sides, or the sides of a Seq.
-#[derive(Drop)]
+#[derive(Clone, Copy)]
 enum Lead {
     Stop,
     Name,

@@ -9,7 +9,7 @@ use crate::names::{Name, name_at};
 use image::access::{bits_at, expr_at};
 use image::expr::Expr;
 
-#[derive(Drop)]
+#[derive(Clone, Copy)]
 pub enum Kind {
     // succeeds in place
     InPlace,

@@ -5,7 +5,7 @@ ghost use Rattle.reading.specs.Promise.{LookAt};
 use image::access::expr_at;
 use image::expr::Expr;
 
-#[derive(Drop)]
+#[derive(Clone, Copy)]
 pub enum Look {
     // leaves the stack as it is
     Keeps,

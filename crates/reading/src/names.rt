@@ -10,7 +10,7 @@ use image::access::{Found, find_rule, node_count, root_at, text_of};
 use image::same_bytes;
 
 // What a name is: a built-in stack name, a rule's (the rule's root), or unknown.
-#[derive(Drop)]
+#[derive(Clone, Copy)]
 pub enum Name {
     Peek,
     PeekAll,

@@ -1,4 +1,5 @@
 // The starts of one run, or of one search for a loop: packed states in an array of fixed length, and a count.
+#![tactic(auto)]
 ghost use Rattle.std.specs.Prelude.{◌≡◌, ◌<◌};
 ghost use Rattle.stack.specs.State.{max_len};
 ghost use Rattle.stack.specs.Number.{state_at, NumberOfState};
@@ -6,14 +7,14 @@ ghost use Rattle.asking.specs.Runs.{place, any_same_top};
 ghost use Rattle.starts.specs.Promise.{starts_of, Numbered, Begun, More, place_of, At};
 
 // The states with which copies began, the oldest first. A run has at most 64; a search looks at 64 and enters one more.
-#[derive(Drop)]
+#[derive(Clone, Copy)]
 pub struct Starts {
     pub states: [u16; 65],
     pub count: usize,
 }
 
 // Where a state stands among the starts: so many places back from the newest, or nowhere.
-#[derive(Drop)]
+#[derive(Clone, Copy)]
 pub enum Spot {
     Back(usize),
     New,

@@ -1,5 +1,6 @@
 // The program behind `./thatchnip`: checks the node images that its arguments name, and says in words what is wrong with each grammar.
 // Arguments: 3 or 1, the descriptor that gets the status line; text, color or raw; the places of the outcome, walked and report table; the files.
+#![tactic(auto)]
 ghost use Rattle.std.specs.Prelude.{◌+◌, ◌≤◌, length};
 ghost use Rattle.image.specs.Accepted.{Accepted};
 ghost use Rattle.image.specs.Promise.{AtNode};
@@ -42,7 +43,7 @@ const REPORTS: u64 = 4096;
 const MOST_REPORTS: u64 = 8192;
 
 // The places of the three tables.
-#[derive(Drop)]
+#[derive(Clone, Copy)]
 struct Places {
     outcomes: u64,
     walked: u64,

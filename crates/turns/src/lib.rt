@@ -1,5 +1,6 @@
 // What the stack pass does without asking: what the outcome of one copy makes of a run, of a search for a loop, and of a report; and the
 // key of a question.
+#![tactic(auto)]
 ghost use Rattle.std.specs.Prelude.{◌≡◌, true, cond, ◌<◌, eqb, length, get_or, set};
 ghost use Rattle.std.proofs.Math.Option.{none, some};
 ghost use Rattle.stack.specs.State.{max_len};
@@ -19,7 +20,7 @@ use starts::Starts;
 
 // How a run ended: a refusal or 0, the reports so far, the state after it, whether all its copies consumed nothing, and whether a
 // required copy can fail.
-#[derive(Drop)]
+#[derive(Clone, Copy)]
 pub struct Ran {
     pub refusal: u8,
     pub count: usize,
@@ -29,7 +30,7 @@ pub struct Ran {
 }
 
 // One copy of a run: whether the run has ended, how, and the state the next copy begins with.
-#[derive(Drop)]
+#[derive(Clone, Copy)]
 pub struct Went {
     pub ended: bool,
     pub ran: Ran,
@@ -37,14 +38,14 @@ pub struct Went {
 }
 
 // A refusal or 0, and the reports so far.
-#[derive(Drop)]
+#[derive(Clone, Copy)]
 pub struct Placed {
     pub refusal: u8,
     pub count: usize,
 }
 
 // A search for a loop: a refusal or 0, the reports so far, and whether a loop was found.
-#[derive(Drop)]
+#[derive(Clone, Copy)]
 pub struct LoopFound {
     pub refusal: u8,
     pub count: usize,
@@ -52,7 +53,7 @@ pub struct LoopFound {
 }
 
 // One step of the search: whether it has ended, and how; the state it goes on from, and what is past.
-#[derive(Drop)]
+#[derive(Clone, Copy)]
 pub struct Hunting {
     pub ended: bool,
     pub found: LoopFound,
@@ -61,7 +62,7 @@ pub struct Hunting {
 }
 
 // What a node with one part makes of its part's outcome.
-#[derive(Drop)]
+#[derive(Clone, Copy)]
 pub enum OnePart {
     PosPred,
     NegPred,
