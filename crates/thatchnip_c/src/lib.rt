@@ -1,5 +1,6 @@
 // The check for C hosts: the library's entry `thatchnip_check` under its C name, with the same promise. A static library has no other export.
 #![tactic(auto)]
+
 ghost use Rattle.thatchnip.specs.Promise.{Checked};
 
 // Checks a grammar's node image over three lent tables. The number is count + 2^32 × refusal.
