@@ -1,0 +1,5 @@
+use Rattle.stack.proofs.Fields.{non-empty-law}
+use Rattle.stack.proofs.AbsStack.non_empty.Goals as goal
+
+pub returns : goal.returns
+returns c = non-empty-law c.args.self
