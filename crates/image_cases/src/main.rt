@@ -1,8 +1,6 @@
 // Judges images: standard input has one a line, a name, a space and the image as lower-case hex; standard output gets each name with its refusal.
 // The stored input and the numbers expected are written by oracle/image_cases.py, which knows document 01 and nothing of this code.
 #![tactic(auto)]
-ghost use Rattle.std.specs.Prelude.{◌≤◌, ◌<◌, length};
-ghost use Rattle.io.specs.Counts.{IsPrefixLen};
 
 ghost use Rattle.std.specs.Prelude.{◌≤◌, ◌<◌, length, IfOk};
 ghost use Rattle.std.specs.Counts.{IsPrefixLen};

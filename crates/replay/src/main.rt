@@ -2,8 +2,6 @@
 // The form of the input is in oracle/README.md, "The recorded corpus". Each table is lent with as many places as the case has, most with
 // spare bytes behind them, and with no byte zero. Standard output gets a line for each of the first ten cases that differ, then the counts.
 #![tactic(auto)]
-ghost use Rattle.std.specs.Prelude.{◌<◌, ◌≤◌};
-ghost use Rattle.io.specs.Counts.{IsPrefixLen};
 
 ghost use Rattle.std.specs.Prelude.{◌<◌, ◌≤◌, IfOk};
 ghost use Rattle.std.specs.Counts.{IsPrefixLen};

@@ -5,6 +5,8 @@
 // Line 3: line 1 again, after `clear`.
 // Line 4: the three words of a report table of 30 bytes, the first written twice and the last never.
 #![tactic(auto)]
+
+use std::io;
 use tables::Probe;
 
 // A digit as a byte of text.

@@ -1,7 +1,10 @@
 // The program behind `./thatchnip`: checks the node images that its arguments name, and says in words what is wrong with each grammar.
-// Arguments: 3 or 1, the descriptor that gets the status line; text, color or raw; the places of the outcome, walked and report table; the files.
+// Arguments: 1 where a status line is to end the output, else 3; text, color or raw; the places of the outcome, walked and report table; the files.
+// The exit status is the worst status of the files, or 4 where a write failed. A file whose name is not UTF-8 is opened by a link to it, which
+// has the number of its argument as its name, in the folder that THATCHNIP_LINKS names.
 #![tactic(auto)]
-ghost use Rattle.std.specs.Prelude.{◌+◌, ◌≤◌, length};
+
+ghost use Rattle.std.specs.Prelude.{◌≤◌, length, IfOk};
 ghost use Rattle.image.specs.Accepted.{Accepted};
 ghost use Rattle.image.specs.Promise.{AtNode};
 
