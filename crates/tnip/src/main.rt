@@ -95,16 +95,21 @@ fn put_name(rt: &impl Print, name: &[u8]) -> io::Result<()> {
     put_text(rt, shown(name))
 }
 
+// What an error says, without the system's number behind it.
+fn error_words(text: &str) -> &str {
+    match text.split_once(" (os error ") {
+        Some((words, _number)) => words,
+        None => text,
+    }
+}
+
 // Writes to standard error why a file is not checked: its name, a colon and what the error says.
 fn fail(rt: &HostRuntime, what: &[u8], error: &io::Error) -> io::Result<()> {
     let text = format!(in rt.alloc(); "{error}")?;
-    let said = match text.as_str().split_once(" (os error ") {
-        Some((said, _number)) => said,
-        None => text.as_str(),
-    };
     rt.stderr().write_all(what)?;
     rt.stderr().write_all(b": ")?;
-    rt.stderr().write_all(said.as_bytes())?;
+    rt.stderr()
+        .write_all(error_words(text.as_str()).as_bytes())?;
     rt.stderr().write_all(b"\n")
 }
 
