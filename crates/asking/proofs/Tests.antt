@@ -15,7 +15,7 @@ use Rattle.stack.specs.State.{State, same_bit, same_tops, same_top}
 use Rattle.stack.proofs.Coverage.{and_left, and_right}
 use Rattle.stack.proofs.Bits.{same_tops-eq}
 use Rattle.machine.specs.Lists.{Mem}
-use Rattle.asking.specs.World.{Ask, Pair, same_base, same_state, is_pair}
+use Rattle.asking.specs.World.{Pair, same_base, same_state, is_pair}
 use Rattle.asking.specs.Runs.{one_more, place, any_same_top}
 
 pub or_left : (a b : Bool) → a ≡ true → a || b ≡ true

@@ -1,6 +1,7 @@
 // Outcomes: what asking about a node from a state answers, and the outcome of each construct from those of its parts (document
 // 01, "Outcomes"). Each promise is an equation with a definition of the machine.
 #![tactic(auto)]
+
 ghost use Rattle.std.specs.Prelude.{◌≡◌, ◌&&◌, ◌||◌, cond};
 ghost use Rattle.std.proofs.Math.Option.{none, some};
 ghost use Rattle.stack.specs.State.{max_len, popped_one};

@@ -210,7 +210,7 @@ run-start g false = refl
 pub run-next : (g : Grammar) (b : Bool) (i : ℕ) (h h1 : Held) → i < length g.rules → h1 ≡ place_all h (flat (reports_at g b) (top_down g (root_at g i))) →
     place_all h (finds_from g b i) ≡ place_all h1 (finds_from g b (i + 1))
 unfolding finds_from root_at flat
-run-next g b i h h1 l e = rw (add-one i, drop-cons g.rules i no_rule l, flat, flat_append, place-append, ← e)
+run-next g b i h h1 l e = rw (add-one i, drop-cons g.rules i no_rule l, flat, flat_append (reports_at g b), place-append, ← e)
 
 pub run_end : (g : Grammar) (b : Bool) (i : ℕ) (h : Held) → length g.rules ≤ i → place_all h (finds_from g b i) ≡ h
 unfolding finds_from flat place_all

@@ -1,12 +1,12 @@
 -- What the passes promise of the report table, and what the search for left recursion asks of the names. Assumes nothing.
-use Rattle.std.specs.Prelude.{cond, List, [], ◌∷◌, ◌++◌, ◌≡◌, ℕ, zero, suc, ◌*◌, ◌≤◌, ◌<◌, ltb, eqb, length, get_or, set, take, drop, replicate}
+use Rattle.std.specs.Prelude.{cond, List, [], ◌∷◌, ◌++◌, ◌≡◌, ℕ, zero, suc, ◌*◌, ◌<◌, ltb, eqb, length, get_or, set, take, drop, replicate}
 use Rattle.image.specs.declared.expr.Expr.TheVariants.{Ident}
 use Rattle.image.specs.declared.access.Found.{Found}
 use Rattle.image.specs.declared.access.Found.TheVariants.{At, Nothing}
 use Rattle.image.specs.Grammar.{Grammar, Rule, expr_at, text_of, find_rule}
 use Rattle.tables.specs.Bytes.{set_le}
 use Rattle.tables.specs.Places.{places}
-use Rattle.tables.specs.Words.{words, spare, laid, Holds}
+use Rattle.tables.specs.Words.{words, spare, Holds}
 use Rattle.tables.specs.Report.{report}
 use Rattle.passes.specs.Report.{Result, refused, done, place}
 use Rattle.passes.specs.Order.{ordered}

@@ -1,7 +1,7 @@
 -- The starts as a list of states, newest first, and what the promises say of it. Assumes nothing.
 use Rattle.std.specs.Prelude.{◌≡◌, List, [], ◌∷◌, ℕ, zero, suc, ◌+◌, ◌-◌, ◌≤◌, ◌<◌, get_or, length, set, replicate}
 use Rattle.std.proofs.Math.Option.{Option, none, some}
-use Rattle.stack.specs.State.{State, unknown, max_len}
+use Rattle.stack.specs.State.{State, max_len}
 use Rattle.stack.specs.Number.{state_at, NumberOfState}
 use Rattle.starts.specs.declared.Starts.{Starts}
 use Rattle.starts.specs.declared.Spot.{Spot}

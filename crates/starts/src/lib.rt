@@ -1,5 +1,6 @@
 // The starts of one run, or of one search for a loop: packed states in an array of fixed length, and a count.
 #![tactic(auto)]
+
 ghost use Rattle.std.specs.Prelude.{◌≡◌, ◌<◌};
 ghost use Rattle.stack.specs.State.{max_len};
 ghost use Rattle.stack.specs.Number.{state_at, NumberOfState};

@@ -1,0 +1,8 @@
+use Rattle.starts.proofs.Spots.{Finding}
+use Rattle.starts.proofs.find.Given as goal
+
+abbrev pub invariant-loop-i : goal.invariant-loop-i
+invariant-loop-i l = Finding l.run.states l.state l.run.count l.i
+
+abbrev pub decreases-loop-i : goal.decreases-loop-i
+decreases-loop-i l = l.i
