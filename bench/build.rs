@@ -1,4 +1,4 @@
-//! Links the archive that `rt staticlib thatchnip` writes.
+//! Links the archive that `tools/archive` writes.
 
 fn main() {
     let here = std::env::var("CARGO_MANIFEST_DIR").expect("cargo says where the package is");

@@ -1,4 +1,4 @@
-/* thatchnip.h: the grammar check as a C or C++ host calls it. Link target/staticlib/libthatchnip.a (made by `rt staticlib thatchnip`). */
+/* thatchnip.h: the grammar check as a C or C++ host calls it. Link target/staticlib/libthatchnip.a (made by `tools/archive`). */
 #ifndef THATCHNIP_H
 #define THATCHNIP_H
 

@@ -1,10 +1,27 @@
 // Judges images: standard input has one a line, a name, a space and the image as lower-case hex; standard output gets each name with its refusal.
 // The stored input and the numbers expected are written by oracle/image_cases.py, which knows document 01 and nothing of this code.
 #![tactic(auto)]
-ghost use Rattle.std.specs.Prelude.{◌≤◌, ◌<◌, length};
-ghost use Rattle.io.specs.Counts.{IsPrefixLen};
 
-use libc::{STDIN_FILENO, STDOUT_FILENO};
+ghost use Rattle.std.specs.Prelude.{◌≤◌, ◌<◌, length, IfOk};
+ghost use Rattle.std.specs.Counts.{IsPrefixLen};
+
+use std::io;
+use std::io::Read;
+
+// Reads until the buffer is full or the input ends, and answers how many bytes were read.
+fn read_full(from: &mut impl Read, buf: &mut [u8]) -> io::Result<usize>
+    ensures { IfOk result (λ n. IsPrefixLen n buf.new) }
+{
+    let mut done = 0;
+    while done < buf.len() {
+        let got = from.read(&mut buf[done..])?;
+        if got == 0 {
+            return Ok(done);
+        }
+        done += got;
+    }
+    Ok(done)
+}
 
 // The first place from `from` on at which s has b, or the length of s.
 fn find(s: &[u8], from: usize, b: u8) -> usize
@@ -84,51 +101,50 @@ fn decode(hex: &[u8], out: &mut [u8]) -> usize
 }
 
 // Writes to standard output.
-fn put(text: &[u8]) {
-    io::write_all(STDOUT_FILENO, text);
+fn put(rt: &impl Print, text: &[u8]) -> io::Result<()> {
+    rt.write_all(text)
 }
 
 // Decodes an image and writes its refusal.
-fn judge(hex: &[u8]) {
+fn judge(rt: &impl Print, hex: &[u8]) -> io::Result<()> {
     let mut bytes = [0u8; 65536];
     if !is_hex(hex, 65536) {
-        put(b"malformed\n");
-        return;
+        return put(rt, b"malformed\n");
     }
     let n = decode(hex, &mut bytes);
-    io::print_decimal(STDOUT_FILENO, image::judge(&bytes[..n]) as u64);
-    put(b"\n");
+    rt.print(image::judge(&bytes[..n]))?;
+    put(rt, b"\n")
 }
 
 // One case: a name, a space, an image.
-fn line(text: &[u8]) {
+fn line(rt: &impl Print, text: &[u8]) -> io::Result<()> {
     let space = find(text, 0, b' ');
-    put(&text[..space]);
-    put(b" ");
+    put(rt, &text[..space])?;
+    put(rt, b" ")?;
     if space < text.len() {
         let from = space + 1;
-        judge(&text[from..]);
+        judge(rt, &text[from..])
     } else {
-        put(b"malformed\n");
+        put(rt, b"malformed\n")
     }
 }
 
 // Every line of the input.
-fn lines(input: &[u8]) {
+fn lines(rt: &impl Print, input: &[u8]) -> io::Result<()> {
     let mut at = 0;
     while at < input.len() {
         let end = find(input, at, b'\n');
-        line(&input[at..end]);
+        line(rt, &input[at..end])?;
         at = end + 1;
     }
+    Ok(())
 }
 
-fn main() {
+fn main(rt: HostRuntime) -> io::Result<()> {
     let mut input = [0u8; 409600];
-    let n = io::read_full(STDIN_FILENO, &mut input);
+    let n = read_full(&mut rt.stdin(), &mut input)?;
     if n == 409600 {
-        put(b"too long\n");
-        return;
+        return put(&rt, b"too long\n");
     }
-    lines(&input[..n]);
+    lines(&rt, &input[..n])
 }

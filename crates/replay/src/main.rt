@@ -2,10 +2,12 @@
 // The form of the input is in oracle/README.md, "The recorded corpus". Each table is lent with as many places as the case has, most with
 // spare bytes behind them, and with no byte zero. Standard output gets a line for each of the first ten cases that differ, then the counts.
 #![tactic(auto)]
-ghost use Rattle.std.specs.Prelude.{◌<◌, ◌≤◌};
-ghost use Rattle.io.specs.Counts.{IsPrefixLen};
 
-use libc::{STDIN_FILENO, STDOUT_FILENO};
+ghost use Rattle.std.specs.Prelude.{◌<◌, ◌≤◌, IfOk};
+ghost use Rattle.std.specs.Counts.{IsPrefixLen};
+
+use std::io;
+use std::io::Read;
 
 // What `next_number` answers where the input ends.
 const ENDED: u64 = 4294967296;
@@ -17,13 +19,28 @@ const AGREE: usize = 19;
 const DIFFER: usize = 20;
 
 // Writes to standard output.
-fn put(text: &[u8]) {
-    io::write_all(STDOUT_FILENO, text);
+fn put(rt: &impl Print, text: &[u8]) -> io::Result<()> {
+    rt.write_all(text)
 }
 
 // Writes a number.
-fn put_number(x: u64) {
-    io::print_decimal(STDOUT_FILENO, x);
+fn put_number(rt: &impl Print, x: u64) -> io::Result<()> {
+    rt.print(x)
+}
+
+// Reads until the buffer is full or the input ends, and answers how many bytes were read.
+fn read_full(from: &mut impl Read, buf: &mut [u8]) -> io::Result<usize>
+    ensures { IfOk result (λ n. IsPrefixLen n buf.new) }
+{
+    let mut done = 0;
+    while done < buf.len() {
+        let got = from.read(&mut buf[done..])?;
+        if got == 0 {
+            return Ok(done);
+        }
+        done += got;
+    }
+    Ok(done)
 }
 
 // A byte as a number of 64 bits.
@@ -41,20 +58,20 @@ fn number(b: &[u8; 4]) -> u64
 }
 
 // The next number of the input.
-fn next_number() -> u64
-    ensures { result ≤ 4294967296 }
+fn next_number(from: &mut impl Read) -> io::Result<u64>
+    ensures { IfOk result (λ n. n ≤ 4294967296) }
 {
     let mut bytes = [0u8; 4];
-    if io::read_full(STDIN_FILENO, &mut bytes) < 4 {
-        return ENDED;
+    if read_full(from, &mut bytes)? < 4 {
+        return Ok(ENDED);
     }
-    number(&bytes)
+    Ok(number(&bytes))
 }
 
 // Adds one to a count.
 fn bump(tally: &mut [u64; 21], i: usize) {
     if i < 21 {
-        tally[i] = std::num::wrapping_add_u64(tally[i], 1);
+        tally[i] = tally[i].wrapping_add(1);
     }
 }
 
@@ -85,25 +102,27 @@ fn other(table: &[u8], bytes: &[u8]) -> usize {
 }
 
 // Writes where a table is not these bytes and then zeros.
-fn tell_table(name: &[u8], table: &[u8], bytes: &[u8]) {
+fn tell_table(rt: &impl Print, name: &[u8], table: &[u8], bytes: &[u8]) -> io::Result<()> {
     let at = other(table, bytes);
     if at < table.len() {
-        put(name);
-        put(b" table differs at byte ");
-        put_number(at as u64);
+        put(rt, name)?;
+        put(rt, b" table differs at byte ")?;
+        put_number(rt, at as u64)?;
     }
+    Ok(())
 }
 
 // Writes a result in words.
-fn tell_result(res: u64) {
-    put(b"refusal ");
-    put_number(res / 4294967296);
-    put(b" and count ");
-    put_number(res % 4294967296);
+fn tell_result(rt: &impl Print, res: u64) -> io::Result<()> {
+    put(rt, b"refusal ")?;
+    put_number(rt, res / 4294967296)?;
+    put(rt, b" and count ")?;
+    put_number(rt, res % 4294967296)
 }
 
 // Writes how a case differs.
 fn tell(
+    rt: &impl Print,
     case: u64,
     res: u64,
     recorded: u64,
@@ -111,17 +130,17 @@ fn tell(
     walked: &[u8],
     reports: &[u8],
     wanted: &[u8],
-) {
-    put(b"case ");
-    put_number(case);
-    put(b": ");
-    tell_result(res);
-    put(b", recorded ");
-    tell_result(recorded);
-    tell_table(b"; outcome", outcomes, b"");
-    tell_table(b"; walked", walked, b"");
-    tell_table(b"; report", reports, wanted);
-    put(b"\n");
+) -> io::Result<()> {
+    put(rt, b"case ")?;
+    put_number(rt, case)?;
+    put(rt, b": ")?;
+    tell_result(rt, res)?;
+    put(rt, b", recorded ")?;
+    tell_result(rt, recorded)?;
+    tell_table(rt, b"; outcome", outcomes, b"")?;
+    tell_table(rt, b"; walked", walked, b"")?;
+    tell_table(rt, b"; report", reports, wanted)?;
+    put(rt, b"\n")
 }
 
 // Whether the result is the recorded one, the work tables are zero and the report table has the recorded reports and then zeros.
@@ -173,6 +192,7 @@ fn ask(image: &[u8], outcomes: &mut [u8], walked: &mut [u8], reports: &mut [u8])
 
 // Asks the check about a case and compares.
 fn judge(
+    rt: &impl Print,
     case: u64,
     image: &[u8],
     outcomes: &mut [u8],
@@ -181,27 +201,30 @@ fn judge(
     wanted: &[u8],
     recorded: u64,
     tally: &mut [u64; 21],
-) {
+) -> io::Result<()> {
     soil(outcomes);
     soil(walked);
     soil(reports);
     let result = ask(image, outcomes, walked, reports);
     if agrees(result, recorded, outcomes, walked, reports, wanted) {
         count(recorded / 4294967296, wanted, tally);
-        return;
+        return Ok(());
     }
     if tally[DIFFER] < 10 {
-        tell(case, result, recorded, outcomes, walked, reports, wanted);
+        tell(
+            rt, case, result, recorded, outcomes, walked, reports, wanted,
+        )?;
     }
     bump(tally, DIFFER);
+    Ok(())
 }
 
 // Writes why a case cannot be read, and answers false.
-fn fault(case: u64, why: &[u8]) -> bool {
-    put(b"case ");
-    put_number(case);
-    put(why);
-    false
+fn fault(rt: &impl Print, case: u64, why: &[u8]) -> io::Result<bool> {
+    put(rt, b"case ")?;
+    put_number(rt, case)?;
+    put(rt, why)?;
+    Ok(false)
 }
 
 // So many bytes of a buffer, or all of them where it has fewer.
@@ -216,11 +239,11 @@ fn within(bytes: u64, buf: &[u8]) -> usize
 }
 
 // Reads n bytes of the input to the start of a buffer. False where the input ends.
-fn read(buf: &mut [u8], n: usize) -> bool
+fn read(from: &mut impl Read, buf: &mut [u8], n: usize) -> io::Result<bool>
     requires { IsPrefixLen n buf.old }
     ensures { IsPrefixLen n buf.new }
 {
-    io::read_full(STDIN_FILENO, &mut buf[..n]) == n
+    Ok(read_full(from, &mut buf[..n])? == n)
 }
 
 // A refusal and a count in one number, as the check gives them.
@@ -233,6 +256,8 @@ fn packed(refusal: u64, count: u64) -> u64
 
 // What follows a case's image: its places and its answer. False where the input is not so.
 fn answer(
+    rt: &impl Print,
+    from: &mut impl Read,
     case: u64,
     image: &[u8],
     outcomes: &mut [u8],
@@ -240,26 +265,27 @@ fn answer(
     reports: &mut [u8],
     wanted: &mut [u8],
     tally: &mut [u64; 21],
-) -> bool {
-    let o = within(next_number() * 8 + case % 8, outcomes);
-    let w = within(next_number() * 4 + case % 4, walked);
-    let r = within(next_number() * 8 + case / 8 % 8, reports);
-    let refusal = next_number();
-    let count = next_number();
+) -> io::Result<bool> {
+    let o = within(next_number(from)? * 8 + case % 8, outcomes);
+    let w = within(next_number(from)? * 4 + case % 4, walked);
+    let r = within(next_number(from)? * 8 + case / 8 % 8, reports);
+    let refusal = next_number(from)?;
+    let count = next_number(from)?;
     let n = within(count * 8, wanted);
     if count == ENDED {
-        return fault(case, b": the input ends after its image\n");
+        return fault(rt, case, b": the input ends after its image\n");
     }
     if o == outcomes.len() || w == walked.len() || r == reports.len() {
-        return fault(case, b": malformed, too many places\n");
+        return fault(rt, case, b": malformed, too many places\n");
     }
     if 13 < refusal || r < n {
-        return fault(case, b": malformed, no such answer\n");
+        return fault(rt, case, b": malformed, no such answer\n");
     }
-    if !read(wanted, n) {
-        return fault(case, b": the input ends in its reports\n");
+    if !read(from, wanted, n)? {
+        return fault(rt, case, b": the input ends in its reports\n");
     }
     judge(
+        rt,
         case,
         image,
         &mut outcomes[..o],
@@ -268,12 +294,14 @@ fn answer(
         &wanted[..n],
         packed(refusal, count),
         tally,
-    );
-    true
+    )?;
+    Ok(true)
 }
 
 // One case of the input. False where it has none.
 fn one(
+    rt: &impl Print,
+    from: &mut impl Read,
     case: u64,
     image: &mut [u8],
     outcomes: &mut [u8],
@@ -281,23 +309,35 @@ fn one(
     reports: &mut [u8],
     wanted: &mut [u8],
     tally: &mut [u64; 21],
-) -> bool {
-    let length = next_number();
+) -> io::Result<bool> {
+    let length = next_number(from)?;
     let n = within(length, image);
     if length == ENDED {
-        return fault(case, b": the input ends before it\n");
+        return fault(rt, case, b": the input ends before it\n");
     }
     if n == image.len() {
-        return fault(case, b": malformed, too long an image\n");
+        return fault(rt, case, b": malformed, too long an image\n");
     }
-    if !read(image, n) {
-        return fault(case, b": the input ends in its image\n");
+    if !read(from, image, n)? {
+        return fault(rt, case, b": the input ends in its image\n");
     }
-    answer(case, &image[..n], outcomes, walked, reports, wanted, tally)
+    answer(
+        rt,
+        from,
+        case,
+        &image[..n],
+        outcomes,
+        walked,
+        reports,
+        wanted,
+        tally,
+    )
 }
 
 // So many cases of the input. False where it has fewer.
 fn cases(
+    rt: &impl Print,
+    from: &mut impl Read,
     total: u64,
     image: &mut [u8],
     outcomes: &mut [u8],
@@ -305,35 +345,44 @@ fn cases(
     reports: &mut [u8],
     wanted: &mut [u8],
     tally: &mut [u64; 21],
-) -> bool {
+) -> io::Result<bool> {
     let mut case = 0;
     while case < total {
         case += 1;
-        if !one(case, image, outcomes, walked, reports, wanted, tally) {
-            return false;
+        if !one(
+            rt, from, case, image, outcomes, walked, reports, wanted, tally,
+        )? {
+            return Ok(false);
         }
     }
-    true
+    Ok(true)
 }
 
 // Whether the input ends here.
-fn is_at_end() -> bool {
+fn is_at_end(from: &mut impl Read) -> io::Result<bool> {
     let mut bytes = [0u8; 1];
-    io::read_full(STDIN_FILENO, &mut bytes) == 0
+    Ok(read_full(from, &mut bytes)? == 0)
 }
 
 // Replays the whole input. False where it is not a number of cases and so many cases.
-fn replay(outcomes: &mut [u8; 1048576], tally: &mut [u64; 21]) -> bool {
+fn replay(
+    rt: &impl Print,
+    from: &mut impl Read,
+    outcomes: &mut [u8; 1048576],
+    tally: &mut [u64; 21],
+) -> io::Result<bool> {
     let mut image = [0u8; 65536];
     let mut walked = [0u8; 65536];
     let mut reports = [0u8; 65536];
     let mut wanted = [0u8; 65536];
-    let total = next_number();
+    let total = next_number(from)?;
     if total == ENDED {
-        put(b"the input ends before its number of cases\n");
-        return false;
+        put(rt, b"the input ends before its number of cases\n")?;
+        return Ok(false);
     }
     if !cases(
+        rt,
+        from,
         total,
         &mut image,
         outcomes,
@@ -341,53 +390,60 @@ fn replay(outcomes: &mut [u8; 1048576], tally: &mut [u64; 21]) -> bool {
         &mut reports,
         &mut wanted,
         tally,
-    ) {
-        return false;
+    )? {
+        return Ok(false);
     }
-    if !is_at_end() {
-        put(b"the input goes on after its last case\n");
-        return false;
+    if !is_at_end(from)? {
+        put(rt, b"the input goes on after its last case\n")?;
+        return Ok(false);
     }
-    true
+    Ok(true)
 }
 
 // Writes the counts from one place to another, one a line, each with its place less base.
-fn put_counts(name: &[u8], base: usize, from: usize, to: usize, tally: &[u64; 21])
+fn put_counts(
+    rt: &impl Print,
+    name: &[u8],
+    base: usize,
+    from: usize,
+    to: usize,
+    tally: &[u64; 21],
+) -> io::Result<()>
     requires { (base ≤ from) × (to ≤ 21) }
 {
     let mut i = from;
     while i < to {
-        put(name);
-        put_number((i - base) as u64);
-        put(b": ");
-        put_number(tally[i]);
-        put(b"\n");
+        put(rt, name)?;
+        put_number(rt, (i - base) as u64)?;
+        put(rt, b": ")?;
+        put_number(rt, tally[i])?;
+        put(rt, b"\n")?;
         i += 1;
     }
+    Ok(())
 }
 
 // Writes all counts.
-fn put_tally(tally: &[u64; 21]) {
-    put_number(std::num::wrapping_add_u64(tally[AGREE], tally[DIFFER]));
-    put(b" cases, ");
-    put_number(tally[AGREE]);
-    put(b" agree\n");
-    put_counts(b"refusal ", 0, 0, 14, tally);
-    put_counts(b"reports of reason ", REASONS, 14, 19, tally);
+fn put_tally(rt: &impl Print, tally: &[u64; 21]) -> io::Result<()> {
+    put_number(rt, tally[AGREE].wrapping_add(tally[DIFFER]))?;
+    put(rt, b" cases, ")?;
+    put_number(rt, tally[AGREE])?;
+    put(rt, b" agree\n")?;
+    put_counts(rt, b"refusal ", 0, 0, 14, tally)?;
+    put_counts(rt, b"reports of reason ", REASONS, 14, 19, tally)
 }
 
-fn main() {
+fn main(rt: HostRuntime) -> io::Result<()> {
     let mut outcomes = [0u8; 1048576];
     let mut tally = [0u64; 21];
-    let is_whole = replay(&mut outcomes, &mut tally);
-    put_tally(&tally);
+    let is_whole = replay(&rt, &mut rt.stdin(), &mut outcomes, &mut tally)?;
+    put_tally(&rt, &tally)?;
     if !is_whole {
-        put(b"not all read\n");
-        return;
+        return put(&rt, b"not all read\n");
     }
     if tally[DIFFER] == 0 {
-        put(b"all agree\n");
+        put(&rt, b"all agree\n")
     } else {
-        put(b"not all agree\n");
+        put(&rt, b"not all agree\n")
     }
 }

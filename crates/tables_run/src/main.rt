@@ -5,6 +5,8 @@
 // Line 3: line 1 again, after `clear`.
 // Line 4: the three words of a report table of 30 bytes, the first written twice and the last never.
 #![tactic(auto)]
+
+use std::io;
 use tables::Probe;
 
 // A digit as a byte of text.
@@ -77,37 +79,37 @@ fn decimal(x: u64, out: &mut [u8]) {
 }
 
 // Prints a word and the byte after it.
-fn print_word(x: u64, after: &[u8]) {
+fn print_word(rt: &impl Print, x: u64, after: &[u8]) -> io::Result<()> {
     let mut out = [0u8; 11];
     decimal(x, &mut out);
-    io::write_all(1, &out);
-    io::write_all(1, after);
+    rt.write_all(&out)?;
+    rt.write_all(after)
 }
 
 // Puts two words of three and prints all three.
-fn print_words() {
+fn print_words(rt: &impl Print) -> io::Result<()> {
     let mut t = [0u8; 30];
     tables::report::set_word(&mut t, 0, 99999999999);
     tables::report::set_word(&mut t, 1, 12884901890);
     tables::report::set_word(&mut t, 0, 14495514628);
-    print_word(tables::report::word_at(&t, 0), b" ");
-    print_word(tables::report::word_at(&t, 1), b" ");
-    print_word(tables::report::word_at(&t, 2), b"\n");
+    print_word(rt, tables::report::word_at(&t, 0), b" ")?;
+    print_word(rt, tables::report::word_at(&t, 1), b" ")?;
+    print_word(rt, tables::report::word_at(&t, 2), b"\n")
 }
 
-fn main() {
+fn main(rt: HostRuntime) -> io::Result<()> {
     let mut map = [0u8; 64];
     let mut set = [0u8; 38];
     let mut out = [0u8; 24];
     meet_all(&mut map, &mut out);
-    io::write_all(1, &out);
-    io::write_all(1, b"\n");
+    rt.write_all(&out)?;
+    rt.write_all(b"\n")?;
     walk_all(&mut set, &mut out);
-    io::write_all(1, &out);
-    io::write_all(1, b"\n");
+    rt.write_all(&out)?;
+    rt.write_all(b"\n")?;
     tables::clear(&mut map);
     meet_all(&mut map, &mut out);
-    io::write_all(1, &out);
-    io::write_all(1, b"\n");
-    print_words();
+    rt.write_all(&out)?;
+    rt.write_all(b"\n")?;
+    print_words(&rt)
 }

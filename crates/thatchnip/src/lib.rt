@@ -100,8 +100,7 @@ fn check_image(image: &[u8], outcomes: &mut [u8], walked: &mut [u8], reports: &m
 }
 
 // Checks a grammar's node image over three lent tables. The number is count + 2^32 × refusal.
-#[unsafe(no_mangle)]
-pub extern "C" fn thatchnip_check(
+pub fn thatchnip_check(
     image: &[u8],
     outcomes: &mut [u8],
     walked: &mut [u8],

@@ -1,13 +1,20 @@
 // The program behind `./thatchnip`: checks the node images that its arguments name, and says in words what is wrong with each grammar.
-// Arguments: 3 or 1, the descriptor that gets the status line; text, color or raw; the places of the outcome, walked and report table; the files.
+// Arguments: 1 where a status line is to end the output, else 3; text, color or raw; the places of the outcome, walked and report table; the files.
+// The exit status is the worst status of the files, or 4 where a write failed. A file whose name is not UTF-8 is opened by a link to it, which
+// has the number of its argument as its name, in the folder that THATCHNIP_LINKS names.
 #![tactic(auto)]
-ghost use Rattle.std.specs.Prelude.{◌+◌, ◌≤◌, length};
+
+ghost use Rattle.std.specs.Prelude.{◌≤◌, length, IfOk};
 ghost use Rattle.image.specs.Accepted.{Accepted};
 ghost use Rattle.image.specs.Promise.{AtNode};
 
 use image::access::{expr_at, name_of, node_count, rule_count, span_at, text_of};
 use image::expr::{Expr, numbers_in};
-use libc::{STDERR_FILENO, STDOUT_FILENO};
+use std::env::{Env, FillError};
+use std::fs::File;
+use std::io::Read;
+use std::process::ExitCode;
+use std::{env, fs, io, str};
 use tables::report::word_at;
 use words::line::{shown, trimmed};
 use words::number::{number, within};
@@ -27,8 +34,10 @@ const REPORTED: u64 = 1;
 const REFUSED: u64 = 2;
 
 const UNREAD: u64 = 3;
-// What `read_image` answers where a read fails.
-const FAILED: usize = 65537;
+// The exit status where a write failed.
+const UNWRITTEN: u8 = 4;
+// The system's number for a name that is too long.
+const NAME_TOO_LONG: i32 = 36;
 // The places that `./thatchnip` lends unasked, and the most that this program has.
 const OUTCOMES: u64 = 131072;
 
@@ -51,208 +60,244 @@ struct Places {
 }
 
 // Writes to standard output.
-fn put(text: &[u8]) {
-    io::write_all(STDOUT_FILENO, text);
+fn put(rt: &impl Print, text: &[u8]) -> io::Result<()> {
+    rt.write_all(text)
 }
 
 // Writes a number.
-fn put_number(x: u64) {
-    io::print_decimal(STDOUT_FILENO, x);
+fn put_number(rt: &impl Print, x: u64) -> io::Result<()> {
+    rt.print(x)
 }
 
 // Writes a text without the spaces at its end.
-fn put_text(text: [u8; 64]) {
+fn put_text(rt: &impl Print, text: [u8; 64]) -> io::Result<()> {
     let n = trimmed(&text);
-    put(&text[..n]);
+    put(rt, &text[..n])
 }
 
 // Writes what changes a terminal's colour, in the way that has colours.
-fn paint(way: u8, code: &[u8]) {
+fn paint(rt: &impl Print, way: u8, code: &[u8]) -> io::Result<()> {
     if way == COLOR {
-        put(code);
+        put(rt, code)?;
     }
+    Ok(())
 }
 
 // Writes a word of a verdict in its colour.
-fn put_verdict(way: u8, code: &[u8], word: &[u8]) {
-    paint(way, code);
-    put(word);
-    paint(way, b"\x1b[0m");
+fn put_verdict(rt: &impl Print, way: u8, code: &[u8], word: &[u8]) -> io::Result<()> {
+    paint(rt, way, code)?;
+    put(rt, word)?;
+    paint(rt, way, b"\x1b[0m")
 }
 
 // Writes the name of an image as it can be shown, cut off where it is long.
-fn put_name(name: &[u8]) {
-    put_text(shown(name));
+fn put_name(rt: &impl Print, name: &[u8]) -> io::Result<()> {
+    put_text(rt, shown(name))
+}
+
+// What an error says, without the system's number behind it.
+fn error_words(text: &str) -> &str {
+    match text.split_once(" (os error ") {
+        Some((words, _number)) => words,
+        None => text,
+    }
+}
+
+// Writes to standard error why a file is not checked: its name, a colon and what the error says.
+fn fail(rt: &HostRuntime, what: &[u8], error: &io::Error) -> io::Result<()> {
+    let text = format!(in rt.alloc(); "{error}")?;
+    rt.stderr().write_all(what)?;
+    rt.stderr().write_all(b": ")?;
+    rt.stderr()
+        .write_all(error_words(text.as_str()).as_bytes())?;
+    rt.stderr().write_all(b"\n")
 }
 
 // Says on standard error why a file is not checked, and what to do.
-fn unread(path: &[u8]) -> u64 {
-    os::fail(path);
-    io::write_all(STDERR_FILENO, b"thatchnip: ");
-    io::write_all(STDERR_FILENO, path);
-    io::write_all(
-        STDERR_FILENO,
-        b" was not checked: name a file with a node image that may be read\n",
-    );
-    UNREAD
+fn unread(rt: &HostRuntime, path: &[u8], error: &io::Error) -> io::Result<u64> {
+    fail(rt, path, error)?;
+    rt.stderr().write_all(b"thatchnip: ")?;
+    rt.stderr().write_all(path)?;
+    rt.stderr().write_all(b" was not checked: name a file with a node image that may be read\n")?;
+    Ok(UNREAD)
 }
 
 // The rule that owns a node.
-fn tell_rule(image: &[u8], node: usize)
+fn tell_rule(rt: &impl Print, image: &[u8], node: usize) -> io::Result<()>
     requires { AtNode image.now node }
 {
-    put(b"     rule    ");
+    put(rt, b"     rule    ")?;
     let rule = owner(image, node);
     if rule < rule_count(image) {
-        put_name(name_of(image, rule));
+        put_name(rt, name_of(image, rule))?;
     }
-    put(b"\n");
+    put(rt, b"\n")
 }
 
 // The name that an Ident has.
-fn tell_ident(image: &[u8], node: usize)
+fn tell_ident(rt: &impl Print, image: &[u8], node: usize) -> io::Result<()>
     requires { AtNode image.now node }
 {
     let e = expr_at(image, node);
     if let Expr::Ident(at, len) = e {
-        put(b" ");
-        put_name(text_of(image, at, len));
+        put(rt, b" ")?;
+        put_name(rt, text_of(image, at, len))?;
     }
+    Ok(())
 }
 
 // A node's number and kind.
-fn tell_kind(image: &[u8], node: usize)
+fn tell_kind(rt: &impl Print, image: &[u8], node: usize) -> io::Result<()>
     requires { AtNode image.now node }
 {
-    put(b"     node    ");
-    put_number(node as u64);
-    put(b", ");
+    put(rt, b"     node    ")?;
+    put_number(rt, node as u64)?;
+    put(rt, b", ")?;
     let numbers = numbers_in(expr_at(image, node));
-    put_text(kind(numbers.kind));
-    tell_ident(image, node);
-    put(b"\n");
+    put_text(rt, kind(numbers.kind))?;
+    tell_ident(rt, image, node)?;
+    put(rt, b"\n")
 }
 
 // A node's span.
-fn tell_span(image: &[u8], node: usize)
+fn tell_span(rt: &impl Print, image: &[u8], node: usize) -> io::Result<()>
     requires { AtNode image.now node }
 {
     let span = span_at(image, node);
-    put(b"     span    ");
-    put_number(span.start as u64);
-    put(b" to ");
-    put_number(span.end as u64);
-    put(b"\n");
+    put(rt, b"     span    ")?;
+    put_number(rt, span.start as u64)?;
+    put(rt, b" to ")?;
+    put_number(rt, span.end as u64)?;
+    put(rt, b"\n")
 }
 
 // A node: its rule, its kind and its span.
-fn tell_rows(image: &[u8], node: usize)
+fn tell_rows(rt: &impl Print, image: &[u8], node: usize) -> io::Result<()>
     requires { AtNode image.now node }
 {
-    tell_rule(image, node);
-    tell_kind(image, node);
-    tell_span(image, node);
+    tell_rule(rt, image, node)?;
+    tell_kind(rt, image, node)?;
+    tell_span(rt, image, node)
 }
 
 // The node of a report, which is always one of the image.
-fn tell_node(image: &[u8], node: usize)
+fn tell_node(rt: &impl Print, image: &[u8], node: usize) -> io::Result<()>
     requires { Accepted image.now }
 {
     if node < node_count(image) {
-        tell_rows(image, node);
+        tell_rows(rt, image, node)?;
     }
+    Ok(())
 }
 
 // A state: what is below, and the entries above that from the bottom to the top.
-fn tell_state(state: u64) {
-    put(b"     below   ");
-    put_text(below(state / 4096));
-    put(b"\n     stack   ");
+fn tell_state(rt: &impl Print, state: u64) -> io::Result<()> {
+    put(rt, b"     below   ")?;
+    put_text(rt, below(state / 4096))?;
+    put(rt, b"\n     stack   ")?;
     if entries(state) == 0 {
-        put(b"no entry above that\n");
+        put(rt, b"no entry above that\n")?;
     } else {
-        put_text(picture(state));
-        put(b" <- top\n");
+        put_text(rt, picture(state))?;
+        put(rt, b" <- top\n")?;
     }
+    Ok(())
 }
 
 // The head of a report: its number in the list, and its reason.
-fn tell_reason(way: u8, i: u64, k: u64) {
-    put(b"\n  ");
-    put_number(i);
-    put(b"  ");
-    paint(way, b"\x1b[1m");
-    put_text(reason(k));
-    paint(way, b"\x1b[0m");
-    put(b" (reason ");
-    put_number(k);
-    put(b")\n");
+fn tell_reason(rt: &impl Print, way: u8, i: u64, k: u64) -> io::Result<()> {
+    put(rt, b"\n  ")?;
+    put_number(rt, i)?;
+    put(rt, b"  ")?;
+    paint(rt, way, b"\x1b[1m")?;
+    put_text(rt, reason(k))?;
+    paint(rt, way, b"\x1b[0m")?;
+    put(rt, b" (reason ")?;
+    put_number(rt, k)?;
+    put(rt, b")\n")
 }
 
 // One report in words, with its number in the list.
-fn tell_report(way: u8, image: &[u8], i: u64, report: u64)
+fn tell_report(rt: &impl Print, way: u8, image: &[u8], i: u64, report: u64) -> io::Result<()>
     requires { Accepted image.now }
 {
     let k = report / 4294967296;
-    tell_reason(way, i, k);
-    tell_node(image, (report % 65536) as usize);
-    put(b"     why     ");
-    put_text(why(k));
-    put(b"\n");
+    tell_reason(rt, way, i, k)?;
+    tell_node(rt, image, (report % 65536) as usize)?;
+    put(rt, b"     why     ")?;
+    put_text(rt, why(k))?;
+    put(rt, b"\n")?;
     if k == 3 {
-        tell_state(report / 65536 % 65536);
+        tell_state(rt, report / 65536 % 65536)?;
     }
+    Ok(())
 }
 
 // The report at a place of the table in words.
-fn tell_place(way: u8, image: &[u8], i: usize, reports: &[u8])
+fn tell_place(rt: &impl Print, way: u8, image: &[u8], i: usize, reports: &[u8]) -> io::Result<()>
     requires { Accepted image.now }
 {
     if i < reports.len() / 8 {
-        tell_report(way, image, i as u64 + 1, word_at(reports, i));
+        tell_report(rt, way, image, i as u64 + 1, word_at(reports, i))?;
     }
+    Ok(())
 }
 
 // So many reports in words.
-fn tell_list(way: u8, image: &[u8], count: usize, reports: &[u8])
+fn tell_list(rt: &impl Print, way: u8, image: &[u8], count: usize, reports: &[u8]) -> io::Result<()>
     requires { Accepted image.now }
 {
     let mut i = 0;
     while i < count {
-        tell_place(way, image, i, reports);
+        tell_place(rt, way, image, i, reports)?;
         i += 1;
     }
+    Ok(())
 }
 
 // The reports of an image in words. (That it is accepted is asked again, for what reads its names and nodes.)
-fn tell_reports(way: u8, image: &[u8], count: u64, reports: &[u8]) {
+fn tell_reports(
+    rt: &impl Print,
+    way: u8,
+    image: &[u8],
+    count: u64,
+    reports: &[u8],
+) -> io::Result<()> {
     if image::judge(image) == 0 {
-        tell_list(way, image, within(count, reports), reports);
+        tell_list(rt, way, image, within(count, reports), reports)?;
     }
+    Ok(())
 }
 
 // How many reports there are.
-fn put_count(count: u64) {
-    put(b", ");
-    put_number(count);
+fn put_count(rt: &impl Print, count: u64) -> io::Result<()> {
+    put(rt, b", ")?;
+    put_number(rt, count)?;
     if count == 1 {
-        put(b" report\n");
+        put(rt, b" report\n")?;
     } else {
-        put(b" reports\n");
+        put(rt, b" reports\n")?;
     }
+    Ok(())
 }
 
 // The verdict on an accepted image, with its reports.
-fn tell_accepted(way: u8, image: &[u8], count: u64, reports: &[u8]) {
+fn tell_accepted(
+    rt: &impl Print,
+    way: u8,
+    image: &[u8],
+    count: u64,
+    reports: &[u8],
+) -> io::Result<()> {
     if count == 0 {
-        put_verdict(way, b"\x1b[32m", b"accepted");
-        put(b", no report\n");
-        return;
+        put_verdict(rt, way, b"\x1b[32m", b"accepted")?;
+        put(rt, b", no report\n")?;
+        return Ok(());
     }
-    put_verdict(way, b"\x1b[33m", b"accepted");
-    put_count(count);
-    tell_reports(way, image, count, reports);
-    put(b"\n");
+    put_verdict(rt, way, b"\x1b[33m", b"accepted")?;
+    put_count(rt, count)?;
+    tell_reports(rt, way, image, count, reports)?;
+    put(rt, b"\n")
 }
 
 // The number of places to try where some are too few: the usual one, then the most.
@@ -261,25 +306,25 @@ fn more(places: u64, usual: u64, most: u64) -> u64 {
 }
 
 // What to try where a table has no free place.
-fn tell_places(lent: Places, tried: Places) {
+fn tell_places(rt: &impl Print, lent: Places, tried: Places) -> io::Result<()> {
     if lent.outcomes == tried.outcomes
         && lent.walked == tried.walked
         && lent.reports == tried.reports
     {
-        put(b"  This command has no larger table to lend.\n");
-        return;
+        put(rt, b"  This command has no larger table to lend.\n")?;
+        return Ok(());
     }
-    put(b"  Try --places ");
-    put_number(tried.outcomes);
-    put(b" ");
-    put_number(tried.walked);
-    put(b" ");
-    put_number(tried.reports);
-    put(b"\n");
+    put(rt, b"  Try --places ")?;
+    put_number(rt, tried.outcomes)?;
+    put(rt, b" ")?;
+    put_number(rt, tried.walked)?;
+    put(rt, b" ")?;
+    put_number(rt, tried.reports)?;
+    put(rt, b"\n")
 }
 
 // What to try where the outcome, walked or report table has no free place.
-fn tell_more(k: u64, lent: Places) {
+fn tell_more(rt: &impl Print, k: u64, lent: Places) -> io::Result<()> {
     let mut tried = lent;
     if k == 8 {
         tried.outcomes = more(lent.outcomes, OUTCOMES, MOST_OUTCOMES);
@@ -288,57 +333,70 @@ fn tell_more(k: u64, lent: Places) {
     } else {
         tried.reports = more(lent.reports, REPORTS, MOST_REPORTS);
     }
-    tell_places(lent, tried);
+    tell_places(rt, lent, tried)
 }
 
 // The verdict on a refused image, or where a limit is met.
-fn tell_refused(way: u8, k: u64, lent: Places) {
-    put_verdict(way, b"\x1b[31m", b"refused");
-    put(b" (");
-    put_number(k);
-    put(b")\n  ");
-    put_text(refusal(k));
-    put(b"\n");
+fn tell_refused(rt: &impl Print, way: u8, k: u64, lent: Places) -> io::Result<()> {
+    put_verdict(rt, way, b"\x1b[31m", b"refused")?;
+    put(rt, b" (")?;
+    put_number(rt, k)?;
+    put(rt, b")\n  ")?;
+    put_text(rt, refusal(k))?;
+    put(rt, b"\n")?;
     if 8 <= k && k <= 10 {
-        tell_more(k, lent);
+        tell_more(rt, k, lent)?;
     }
+    Ok(())
 }
 
 // The number at a place of the report table, with a space before it.
-fn tell_number(i: usize, reports: &[u8]) {
+fn tell_number(rt: &impl Print, i: usize, reports: &[u8]) -> io::Result<()> {
     if i < reports.len() / 8 {
-        put(b" ");
-        put_number(word_at(reports, i));
+        put(rt, b" ")?;
+        put_number(rt, word_at(reports, i))?;
     }
+    Ok(())
 }
 
 // So many numbers of the report table.
-fn tell_numbers(count: usize, reports: &[u8]) {
+fn tell_numbers(rt: &impl Print, count: usize, reports: &[u8]) -> io::Result<()> {
     let mut i = 0;
     while i < count {
-        tell_number(i, reports);
+        tell_number(rt, i, reports)?;
         i += 1;
     }
+    Ok(())
 }
 
 // The result as numbers.
-fn tell_raw(k: u64, count: u64, reports: &[u8]) {
-    put_number(k);
-    put(b" ");
-    put_number(count);
-    tell_numbers(within(count, reports), reports);
-    put(b"\n");
+fn tell_raw(rt: &impl Print, k: u64, count: u64, reports: &[u8]) -> io::Result<()> {
+    put_number(rt, k)?;
+    put(rt, b" ")?;
+    put_number(rt, count)?;
+    tell_numbers(rt, within(count, reports), reports)?;
+    put(rt, b"\n")
 }
 
 // The result in words.
-fn tell(way: u8, path: &[u8], image: &[u8], k: u64, count: u64, reports: &[u8], lent: Places) {
-    put(path);
-    put(b": ");
+fn tell(
+    rt: &impl Print,
+    way: u8,
+    path: &[u8],
+    image: &[u8],
+    k: u64,
+    count: u64,
+    reports: &[u8],
+    lent: Places,
+) -> io::Result<()> {
+    put(rt, path)?;
+    put(rt, b": ")?;
     if k == 0 {
-        tell_accepted(way, image, count, reports);
+        tell_accepted(rt, way, image, count, reports)?;
     } else {
-        tell_refused(way, k, lent);
+        tell_refused(rt, way, k, lent)?;
     }
+    Ok(())
 }
 
 // The status of a result.
@@ -354,6 +412,7 @@ fn status(k: u64, count: u64) -> u64 {
 
 // Asks the check about an image, tells the result, and answers the status.
 fn ask(
+    rt: &impl Print,
     way: u8,
     path: &[u8],
     image: &[u8],
@@ -361,16 +420,16 @@ fn ask(
     walked: &mut [u8],
     reports: &mut [u8],
     lent: Places,
-) -> u64 {
+) -> io::Result<u64> {
     let result = thatchnip::thatchnip_check(image, outcomes, walked, reports);
     let k = result / 4294967296;
     let count = result % 4294967296;
     if way == RAW {
-        tell_raw(k, count, reports);
+        tell_raw(rt, k, count, reports)?;
     } else {
-        tell(way, path, image, k, count, reports, lent);
+        tell(rt, way, path, image, k, count, reports, lent)?;
     }
-    status(k, count)
+    Ok(status(k, count))
 }
 
 // The smaller of two numbers.
@@ -382,6 +441,7 @@ fn less(a: u64, b: u64) -> u64
 
 // Lends tables of exactly so many places, as far as this program has them.
 fn lend(
+    rt: &impl Print,
     way: u8,
     path: &[u8],
     image: &[u8],
@@ -389,11 +449,12 @@ fn lend(
     walked: &mut [u8],
     reports: &mut [u8],
     lent: Places,
-) -> u64 {
+) -> io::Result<u64> {
     let o = within(less(lent.outcomes, MOST_OUTCOMES) * 8, outcomes);
     let w = within(less(lent.walked, MOST_WALKED) * 4, walked);
     let r = within(less(lent.reports, MOST_REPORTS) * 8, reports);
     ask(
+        rt,
         way,
         path,
         image,
@@ -404,104 +465,121 @@ fn lend(
     )
 }
 
-// One read: 0 where it fails, else one more than the number of its bytes.
-fn read_some(fd: i32, buf: &mut [u8]) -> usize
-    ensures { result ≤ length buf.old + 1 }
+// One read, and the number of its bytes: 0 where the file ends.
+fn read_some(file: &mut impl Read, buf: &mut [u8]) -> io::Result<usize>
+    ensures { IfOk result (λ n. n ≤ length buf.old) }
 {
-    let got = libc::read(fd, buf);
-    if got < 0 {
-        return 0;
-    }
-    io::count(got, buf) + 1
+    file.read(buf)
 }
 
 // Reads a file into a buffer. No image is longer than 60,440 bytes: the start of a longer file is refused as the whole would be.
-fn read_image(fd: i32, image: &mut [u8]) -> usize {
+fn read_image(file: &mut impl Read, image: &mut [u8]) -> io::Result<usize> {
     let mut n = 0;
     while n < image.len() {
-        let more = read_some(fd, &mut image[n..]);
+        let more = read_some(file, &mut image[n..])?;
         if more == 0 {
-            return FAILED;
+            return Ok(n);
         }
-        if more == 1 {
-            return n;
-        }
-        n += more - 1;
+        n += more;
     }
-    n
+    Ok(n)
+}
+
+// The link to the file that argument i names.
+fn link(rt: &HostRuntime, i: usize) -> io::Result<String> {
+    match env::var(rt, "THATCHNIP_LINKS") {
+        Ok(folder) => Ok(format!(in rt.alloc(); "{folder}/{i}")?),
+        Err(_) => Err(io::Error::from(io::ErrorKind::InvalidFilename)),
+    }
+}
+
+// Opens the file that argument i names.
+fn open_argument(rt: &HostRuntime, i: usize, path: &[u8]) -> io::Result<File> {
+    match str::from_utf8(path) {
+        Ok(text) => fs::open(rt, text),
+        Err(_) => fs::open(rt, link(rt, i)?),
+    }
+}
+
+// Opens the file that argument i names, and reads it.
+fn load(rt: &HostRuntime, i: usize, path: &[u8], image: &mut [u8]) -> io::Result<usize> {
+    let mut file = open_argument(rt, i, path)?;
+    read_image(&mut file, image)
 }
 
 // Checks a file, and answers the status.
 fn check_file(
+    rt: &HostRuntime,
+    i: usize,
     way: u8,
     path: &[u8],
     outcomes: &mut [u8],
     walked: &mut [u8],
     reports: &mut [u8],
     lent: Places,
-) -> u64 {
+) -> io::Result<u64> {
     let mut image = [0u8; 65536];
-    let fd = os::open_read(path);
-    if fd < 0 {
-        return unread(path);
+    match load(rt, i, path, &mut image) {
+        Ok(got) => {
+            let n = within(got as u64, &image);
+            lend(rt, way, path, &image[..n], outcomes, walked, reports, lent)
+        }
+        Err(error) => unread(rt, path, &error),
     }
-    let got = read_image(fd, &mut image);
-    if got == FAILED {
-        let code = unread(path);
-        libc::close(fd);
-        return code;
-    }
-    libc::close(fd);
-    let n = within(got as u64, &image);
-    lend(way, path, &image[..n], outcomes, walked, reports, lent)
 }
 
-// Checks the file that an argument names.
+// Checks the file that an argument names. None where there is no such argument.
 fn check_argument(
+    rt: &HostRuntime,
     i: usize,
     way: u8,
     outcomes: &mut [u8],
     walked: &mut [u8],
     reports: &mut [u8],
     lent: Places,
-) -> u64 {
-    let mut path = io::buffer();
-    let n = os::arg(i, &mut path);
-    if os::errno() != 0 {
-        return unread(b"a path of more than 4095 bytes");
+) -> io::Result<Option<u64>> {
+    let mut path = [0u8; 4096];
+    match rt.arg(i, &mut path) {
+        Ok(n) => {
+            let code = check_file(rt, i, way, &path[..n], outcomes, walked, reports, lent)?;
+            Ok(Some(code))
+        }
+        Err(FillError::TooLong) => {
+            let error = io::Error::from_raw_os_error(NAME_TOO_LONG);
+            Ok(Some(unread(rt, b"a path of more than 4095 bytes", &error)?))
+        }
+        Err(FillError::NotPresent) => Ok(None),
     }
-    check_file(way, &path[..n], outcomes, walked, reports, lent)
 }
 
 // Checks the files that the arguments name, and answers the worst status.
 fn check_arguments(
+    rt: &HostRuntime,
     way: u8,
     outcomes: &mut [u8],
     walked: &mut [u8],
     reports: &mut [u8],
     lent: Places,
-) -> u64 {
-    let total = os::arg_count();
+) -> io::Result<u64> {
     let mut worst = 0;
-    let mut i = 6;
-    while i < total {
-        worst = worse(
-            worst,
-            check_argument(i, way, outcomes, walked, reports, lent),
-        );
-        i += 1;
+    for i in 6..usize::MAX {
+        match check_argument(rt, i, way, outcomes, walked, reports, lent)? {
+            Some(code) => worst = worse(worst, code),
+            None => return Ok(worst),
+        }
     }
-    worst
+    Ok(worst)
 }
 
 // Checks all files with the tables that this program has.
 fn check_all(
+    rt: &HostRuntime,
     outcomes: &mut [u8; 2097152],
     walked: &mut [u8; 1048576],
     reports: &mut [u8; 65536],
     lent: Places,
-) -> u64 {
-    check_arguments(letter_at(2), outcomes, walked, reports, lent)
+) -> io::Result<u64> {
+    check_arguments(rt, letter_at(rt, 2), outcomes, walked, reports, lent)
 }
 
 // The worse of two statuses.
@@ -510,41 +588,53 @@ fn worse(a: u64, b: u64) -> u64 {
 }
 
 // The number that an argument has.
-fn number_at(i: usize) -> u64
+fn number_at(rt: &impl Env, i: usize) -> u64
     ensures { result ≤ 4294967296 }
 {
     let mut text = [0u8; 16];
-    let n = os::arg(i, &mut text);
-    number(&text[..n])
+    match rt.arg(i, &mut text) {
+        Ok(n) => number(&text[..n]),
+        Err(_) => 0,
+    }
 }
 
 // The first byte of an argument.
-fn letter_at(i: usize) -> u8 {
+fn letter_at(rt: &impl Env, i: usize) -> u8 {
     let mut text = [0u8; 16];
-    os::arg(i, &mut text);
+    let _ = rt.arg(i, &mut text);
     text[0]
 }
 
 // Writes the status line.
-fn put_status(fd: i32, code: u64) {
-    io::write_all(fd, b"status ");
-    io::print_decimal(fd, code);
-    io::write_all(fd, b"\n");
+fn put_status(rt: &impl Print, code: u64) -> io::Result<()> {
+    put(rt, b"status ")?;
+    put_number(rt, code)?;
+    put(rt, b"\n")
 }
 
-fn main() {
+// Checks all files, and answers the status.
+fn run(rt: &HostRuntime) -> io::Result<u64> {
     let mut outcomes = [0u8; 2097152];
     let mut walked = [0u8; 1048576];
     let mut reports = [0u8; 65536];
     let lent = Places {
-        outcomes: number_at(3),
-        walked: number_at(4),
-        reports: number_at(5),
+        outcomes: number_at(rt, 3),
+        walked: number_at(rt, 4),
+        reports: number_at(rt, 5),
     };
-    let code = check_all(&mut outcomes, &mut walked, &mut reports, lent);
-    if number_at(1) == 3 {
-        put_status(3, code);
-    } else {
-        put_status(STDOUT_FILENO, code);
+    let code = check_all(rt, &mut outcomes, &mut walked, &mut reports, lent)?;
+    if number_at(rt, 1) != 3 {
+        put_status(rt, code)?;
+    }
+    Ok(code)
+}
+
+fn main(rt: HostRuntime) -> ExitCode {
+    match run(&rt) {
+        Ok(code) => ExitCode::from(less(code, UNREAD) as u8),
+        Err(error) => {
+            let _ = eprintln!(rt; "thatchnip: {error}");
+            ExitCode::from(UNWRITTEN)
+        }
     }
 }

@@ -1,0 +1,9 @@
+-- The loop of `image_cases::decode`: the count stays within the buffer, whose length stays.
+use Rattle.std.proofs.Common.{◌≡◌, ◌≤◌, ◌-◌, length}
+use Rattle.image_cases.proofs.decode.Given as goal
+
+abbrev pub invariant-loop-n : goal.invariant-loop-n
+invariant-loop-n l = (l.n ≤ l.count) × (length l.out ≡ length l.fn.out)
+
+abbrev pub decreases-loop-n : goal.decreases-loop-n
+decreases-loop-n l = l.count - l.n

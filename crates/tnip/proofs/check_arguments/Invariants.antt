@@ -1,0 +1,6 @@
+-- The loop of `tnip::check_arguments`: no table changes its length.
+use Rattle.std.proofs.Common.{◌≡◌, length}
+use Rattle.tnip.proofs.check_arguments.Given as goal
+
+abbrev pub invariant-loop-i : goal.invariant-loop-i
+invariant-loop-i l = (length l.outcomes ≡ length l.fn.outcomes) × (length l.walked ≡ length l.fn.walked) × (length l.reports ≡ length l.fn.reports)

@@ -1,0 +1,9 @@
+-- The loop of `tnip::tell_numbers`: a turn for each number.
+use Rattle.std.proofs.Common.{◌≤◌, ◌-◌}
+use Rattle.tnip.proofs.tell_numbers.Given as goal
+
+abbrev pub invariant-loop-i : goal.invariant-loop-i
+invariant-loop-i g l = l.i ≤ l.count
+
+abbrev pub decreases-loop-i : goal.decreases-loop-i
+decreases-loop-i g l = l.count - l.i
