@@ -1,6 +1,7 @@
 // The stack pass: what a node comes to when it is entered with a state, remembered in lent tables, and the repetitions that loop.
 // `visit`, `outcome`, `step`, `ident`, `rule` and `repeat` call each other; the number of open nodes left falls at each entry.
 #![tactic(auto)]
+
 ghost use Rattle.std.specs.Prelude.{◌≡◌, true, false, ◌&&◌, ◌||◌, not, List, [], ◌∷◌, ℕ, suc, ◌+◌, ◌-◌, ◌<◌, ◌≤◌, ltb, length, take};
 ghost use Rattle.std.proofs.Math.Option.{none};
 ghost use Rattle.stack.specs.State.{State, max_len};
@@ -121,7 +122,7 @@ fn hunted(found: LoopFound, cur: AbsStack, seen: Starts) -> Hunting
 }
 
 // The outcome of a node entered with a state. While walking, a pair not yet walked is stepped afresh.
-#[cycle(around_choice_greedy_greedy_copy_greedy_turn_ident_loops_forever_outcome_repeat_repeat_bounded_rule_search_loop_search_turn_seq_step_steps_steps_copy_steps_turn_visit)]
+#[cycle(visiting)]
 fn visit(
     image: &[u8],
     names: &[u16; 2048],
@@ -161,7 +162,7 @@ fn visit(
 }
 
 // The outcome of a node entered with a state, remembered; a pair still open answers UNKNOWN. Walking is off below.
-#[cycle(around_choice_greedy_greedy_copy_greedy_turn_ident_loops_forever_outcome_repeat_repeat_bounded_rule_search_loop_search_turn_seq_step_steps_steps_copy_steps_turn_visit)]
+#[cycle(visiting)]
 fn outcome(
     image: &[u8],
     names: &[u16; 2048],
@@ -211,7 +212,7 @@ fn outcome(
 }
 
 // One step: a node from the outcomes of its parts.
-#[cycle(around_choice_greedy_greedy_copy_greedy_turn_ident_loops_forever_outcome_repeat_repeat_bounded_rule_search_loop_search_turn_seq_step_steps_steps_copy_steps_turn_visit)]
+#[cycle(visiting)]
 fn step(
     image: &[u8],
     names: &[u16; 2048],
@@ -295,7 +296,7 @@ fn step(
 }
 
 // A name: built-in stack names, then rules.
-#[cycle(around_choice_greedy_greedy_copy_greedy_turn_ident_loops_forever_outcome_repeat_repeat_bounded_rule_search_loop_search_turn_seq_step_steps_steps_copy_steps_turn_visit)]
+#[cycle(visiting)]
 fn ident(
     image: &[u8],
     names: &[u16; 2048],
@@ -322,7 +323,7 @@ fn ident(
 }
 
 // A rule's name asks about the rule's root, with walking off.
-#[cycle(around_choice_greedy_greedy_copy_greedy_turn_ident_loops_forever_outcome_repeat_repeat_bounded_rule_search_loop_search_turn_seq_step_steps_steps_copy_steps_turn_visit)]
+#[cycle(visiting)]
 fn rule(
     image: &[u8],
     names: &[u16; 2048],
@@ -341,7 +342,7 @@ fn rule(
 }
 
 // A predicate, an optional or a Push, from the outcome of its part.
-#[cycle(around_choice_greedy_greedy_copy_greedy_turn_ident_loops_forever_outcome_repeat_repeat_bounded_rule_search_loop_search_turn_seq_step_steps_steps_copy_steps_turn_visit)]
+#[cycle(visiting)]
 fn around(
     image: &[u8],
     names: &[u16; 2048],
@@ -366,7 +367,7 @@ fn around(
 }
 
 // A sequence: the right side is asked from the state the left one succeeds with.
-#[cycle(around_choice_greedy_greedy_copy_greedy_turn_ident_loops_forever_outcome_repeat_repeat_bounded_rule_search_loop_search_turn_seq_step_steps_steps_copy_steps_turn_visit)]
+#[cycle(visiting)]
 fn seq(
     image: &[u8],
     names: &[u16; 2048],
@@ -404,7 +405,7 @@ fn seq(
 }
 
 // A choice: the right side is asked from the state the left one fails with, kept or restored.
-#[cycle(around_choice_greedy_greedy_copy_greedy_turn_ident_loops_forever_outcome_repeat_repeat_bounded_rule_search_loop_search_turn_seq_step_steps_steps_copy_steps_turn_visit)]
+#[cycle(visiting)]
 fn choice(
     image: &[u8],
     names: &[u16; 2048],
@@ -443,7 +444,7 @@ fn choice(
 }
 
 // A repetition without a most: while walking it is first searched for a loop; then its required copies, then a greedy run.
-#[cycle(around_choice_greedy_greedy_copy_greedy_turn_ident_loops_forever_outcome_repeat_repeat_bounded_rule_search_loop_search_turn_seq_step_steps_steps_copy_steps_turn_visit)]
+#[cycle(visiting)]
 fn repeat(
     image: &[u8],
     names: &[u16; 2048],
@@ -506,7 +507,7 @@ fn repeat(
 }
 
 // A repetition with a most: its required copies, then its optional ones.
-#[cycle(around_choice_greedy_greedy_copy_greedy_turn_ident_loops_forever_outcome_repeat_repeat_bounded_rule_search_loop_search_turn_seq_step_steps_steps_copy_steps_turn_visit)]
+#[cycle(visiting)]
 fn repeat_bounded(
     image: &[u8],
     names: &[u16; 2048],
@@ -574,7 +575,7 @@ fn repeat_bounded(
 }
 
 // While walking, an unbounded repetition that loops is reported.
-#[cycle(around_choice_greedy_greedy_copy_greedy_turn_ident_loops_forever_outcome_repeat_repeat_bounded_rule_search_loop_search_turn_seq_step_steps_steps_copy_steps_turn_visit)]
+#[cycle(visiting)]
 fn search_loop(
     image: &[u8],
     names: &[u16; 2048],
@@ -613,7 +614,7 @@ fn search_loop(
 }
 
 // So many copies in a row: required ones, or optional ones. The state after all of them is read off their period.
-#[cycle(around_choice_greedy_greedy_copy_greedy_turn_ident_loops_forever_outcome_repeat_repeat_bounded_rule_search_loop_search_turn_seq_step_steps_steps_copy_steps_turn_visit)]
+#[cycle(visiting)]
 fn steps(
     image: &[u8],
     names: &[u16; 2048],
@@ -664,7 +665,7 @@ fn steps(
 }
 
 // One copy of a bounded run: a start that comes again ends it, by its period.
-#[cycle(around_choice_greedy_greedy_copy_greedy_turn_ident_loops_forever_outcome_repeat_repeat_bounded_rule_search_loop_search_turn_seq_step_steps_steps_copy_steps_turn_visit)]
+#[cycle(visiting)]
 fn steps_turn(
     image: &[u8],
     names: &[u16; 2048],
@@ -699,7 +700,7 @@ fn steps_turn(
 }
 
 // A copy that begins with a new start.
-#[cycle(around_choice_greedy_greedy_copy_greedy_turn_ident_loops_forever_outcome_repeat_repeat_bounded_rule_search_loop_search_turn_seq_step_steps_steps_copy_steps_turn_visit)]
+#[cycle(visiting)]
 fn steps_copy(
     image: &[u8],
     names: &[u16; 2048],
@@ -734,7 +735,7 @@ fn steps_copy(
 }
 
 // Copies until one fails, which ends the run with success: every state it can end with.
-#[cycle(around_choice_greedy_greedy_copy_greedy_turn_ident_loops_forever_outcome_repeat_repeat_bounded_rule_search_loop_search_turn_seq_step_steps_steps_copy_steps_turn_visit)]
+#[cycle(visiting)]
 fn greedy(
     image: &[u8],
     names: &[u16; 2048],
@@ -776,7 +777,7 @@ fn greedy(
 }
 
 // One copy of a greedy run: a start that comes again ends it.
-#[cycle(around_choice_greedy_greedy_copy_greedy_turn_ident_loops_forever_outcome_repeat_repeat_bounded_rule_search_loop_search_turn_seq_step_steps_steps_copy_steps_turn_visit)]
+#[cycle(visiting)]
 fn greedy_turn(
     image: &[u8],
     names: &[u16; 2048],
@@ -820,7 +821,7 @@ fn greedy_turn(
 }
 
 // A copy of a greedy run that begins with a new start.
-#[cycle(around_choice_greedy_greedy_copy_greedy_turn_ident_loops_forever_outcome_repeat_repeat_bounded_rule_search_loop_search_turn_seq_step_steps_steps_copy_steps_turn_visit)]
+#[cycle(visiting)]
 fn greedy_copy(
     image: &[u8],
     names: &[u16; 2048],
@@ -867,7 +868,7 @@ fn greedy_copy(
 }
 
 // Whether the turns of a repetition come round again, each succeeding and consuming nothing: 64 steps at most.
-#[cycle(around_choice_greedy_greedy_copy_greedy_turn_ident_loops_forever_outcome_repeat_repeat_bounded_rule_search_loop_search_turn_seq_step_steps_steps_copy_steps_turn_visit)]
+#[cycle(visiting)]
 fn loops_forever(
     image: &[u8],
     names: &[u16; 2048],
@@ -909,7 +910,7 @@ fn loops_forever(
 }
 
 // One step of the search for a loop.
-#[cycle(around_choice_greedy_greedy_copy_greedy_turn_ident_loops_forever_outcome_repeat_repeat_bounded_rule_search_loop_search_turn_seq_step_steps_steps_copy_steps_turn_visit)]
+#[cycle(visiting)]
 fn search_turn(
     image: &[u8],
     names: &[u16; 2048],

@@ -128,7 +128,7 @@ fn home(ident: usize, entered: usize, trail: Trail) -> Search
 }
 
 // Enters a node while this many more nodes may open.
-#[cycle(check_both_check_name_enter)]
+#[cycle(entering)]
 fn enter(
     image: &[u8],
     rules: &[u16; 2048],
@@ -163,7 +163,7 @@ fn enter(
 }
 
 // The one side, or else the other.
-#[cycle(check_both_check_name_enter)]
+#[cycle(entering)]
 fn check_both(
     image: &[u8],
     rules: &[u16; 2048],
@@ -186,7 +186,7 @@ fn check_both(
 }
 
 // An Ident: the first rule ends the search, another rule is entered where it is not on the trail.
-#[cycle(check_both_check_name_enter)]
+#[cycle(entering)]
 fn check_name(
     image: &[u8],
     rules: &[u16; 2048],

@@ -33,7 +33,7 @@ pub fn skips(image: &[u8]) -> bool
 }
 
 // What a name stands for may change the stack: the rule that was found, if one was.
-#[cycle(found_modifies_name_modifies_node_modifies_rule_modifies)]
+#[cycle(modifying)]
 fn found_modifies(
     image: &[u8],
     names: &[u16; 2048],
@@ -51,7 +51,7 @@ fn found_modifies(
 }
 
 // A rule may change the stack; one that was seen is not looked into again. At most `unseen` rules have not been seen.
-#[cycle(found_modifies_name_modifies_node_modifies_rule_modifies)]
+#[cycle(modifying)]
 fn rule_modifies(
     image: &[u8],
     names: &[u16; 2048],
@@ -73,7 +73,7 @@ fn rule_modifies(
 }
 
 // An Ident may change the stack: POP, DROP and POP_ALL do, and any other name is a rule's.
-#[cycle(found_modifies_name_modifies_node_modifies_rule_modifies)]
+#[cycle(modifying)]
 fn name_modifies(
     image: &[u8],
     names: &[u16; 2048],
@@ -99,7 +99,7 @@ fn name_modifies(
 }
 
 // A node may change the stack. Predicates restore it; counts are not looked at.
-#[cycle(found_modifies_name_modifies_node_modifies_rule_modifies)]
+#[cycle(modifying)]
 fn node_modifies(
     image: &[u8],
     names: &[u16; 2048],

@@ -1,6 +1,6 @@
 -- The measures of the cycle of calls. Assumes nothing.
 use Prim.Native.Nat.{◌+◌, ◌*◌}
-use Rattle.passes.proofs.left.+check_both_check_name_enter.Given as goal
+use Rattle.passes.proofs.left.+entering.Given as goal
 
 abbrev pub decreases-check_both : goal.decreases-check_both
 decreases-check_both l = 2 * l.left + 1

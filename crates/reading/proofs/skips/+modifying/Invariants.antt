@@ -1,6 +1,6 @@
 -- The measures of the cycle of calls. Assumes nothing.
 use Prim.Native.Nat.{◌+◌, ◌*◌}
-use Rattle.reading.proofs.skips.+found_modifies_name_modifies_node_modifies_rule_modifies.Given as goal
+use Rattle.reading.proofs.skips.+modifying.Given as goal
 
 abbrev pub decreases-found_modifies : goal.decreases-found_modifies
 decreases-found_modifies l = 8192 * l.unseen + 1

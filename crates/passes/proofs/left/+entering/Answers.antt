@@ -8,7 +8,7 @@ use Rattle.passes.proofs.Searching.{both-ended, both-on, name-none, name-home, n
 use mathlib.Core.Path.{sym, ◌∙◌}
 use lib.ListN.{get_or}
 use Rattle.passes.specs.declared.left.Lead.TheVariants.{Stop, Name, On, Both, Pair}
-use Rattle.passes.proofs.left.+check_both_check_name_enter.Goals as goal
+use Rattle.passes.proofs.left.+entering.Goals as goal
 
 pub check_both-enter-a-requires : goal.check_both-enter-a-requires
 check_both-enter-a-requires t c = (omega (arith, c.decreases), (c.requires.0, c.requires.1.0))

@@ -7,7 +7,7 @@ use Rattle.reading.proofs.NameLaws.{builtin-at, rule-read, rule-read-below}
 use Rattle.reading.specs.declared.looks.Look.TheVariants.{Named}
 use Rattle.reading.proofs.LookLaws.{ident-of-look}
 use lib.ListN.{length-set}
-use Rattle.reading.proofs.skips.+found_modifies_name_modifies_node_modifies_rule_modifies.Goals as goal
+use Rattle.reading.proofs.skips.+modifying.Goals as goal
 
 pub found_modifies-rule_modifies-requires : goal.found_modifies-rule_modifies-requires
 found_modifies-rule_modifies-requires t c = (omega (arith, c.decreases), record { looking = c.requires.looking; rule = rw c.in-At.is at c.requires.rule })
