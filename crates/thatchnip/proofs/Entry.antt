@@ -10,9 +10,8 @@ use lib.ListN.{length, get_or, set, take, length-set, length-append, get_or-eq_d
 use lib.Seq.{length-take-le, get_or-set_same, get_or-set_other}
 use borrow.Author.Tests.{eqb-true, eqb-false}
 use Rattle.image.specs.declared.expr.Expr.TheVariants.{Ident, Range}
-use Rattle.image.specs.declared.access.Found.TheVariants.{At, Nothing}
 use Rattle.image.specs.Formed.{Formed}
-use Rattle.image.specs.Grammar.{Grammar, Node, grammar, no_node, expr_at, text_of, find_rule}
+use Rattle.image.specs.Grammar.{Grammar, Node, grammar, no_node, expr_at}
 use Rattle.image.specs.Refusal.{refusal}
 use Rattle.asking.specs.World as A
 use Rattle.asking.specs.World.{Answer}
@@ -38,8 +37,8 @@ use Rattle.passes.specs.Promise.{Filled, Ended, LeftPass, Sorted, found_number, 
 use Rattle.passes.proofs.FewReports.{Few}
 use Rattle.passes.proofs.FewRecursions.{few-recursions}
 use Rattle.passes.proofs.Ordering.{ordered-count}
-use Rattle.thatchnip.specs.Check.{loops_found, check_grammar, check_judged, check}
-use Rattle.thatchnip.specs.Exit.{checked, result_number, work_bytes, report_bytes}
+use Rattle.thatchnip.specs.Check.{loops_found, check_grammar, check}
+use Rattle.thatchnip.specs.Exit.{checked, result_number, report_bytes}
 use Rattle.thatchnip.specs.Promise.{OnlyRules, first_found, last_found, LeavesIf, FirstPasses, LastPasses, CheckedImage, Checked}
 
 -- the number of a rule, told by its word

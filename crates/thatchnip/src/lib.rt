@@ -1,5 +1,6 @@
 // The check whole, at the boundary that the bench calls: an image, three lent tables, one number.
 #![tactic(auto)]
+
 ghost use Rattle.std.specs.Prelude.{◌≡◌, [], ◌*◌, ◌≤◌, length, take};
 ghost use Rattle.image.specs.Accepted.{Accepted};
 ghost use Rattle.image.specs.Grammar.{grammar};
