@@ -246,9 +246,10 @@ pub fn of_drop(s: AbsStack) -> Outcome
     ensures { IsOutcome (of_drop (state_of s)) result }
 {
     let dropped = s.popped_one();
+    let filled = s.non_empty();
     if s.is_empty() {
         fails(s)
-    } else if s.non_empty() {
+    } else if filled {
         succeeds(dropped)
     } else {
         Outcome {

@@ -229,7 +229,8 @@ pub fn report(
     requires { AtNode image.now part × (n < 2048) × (length marks.old ≡ 2048) × WellFormed max_len s }
     ensures { Reported image.now table.old marks.old count n part s result table.new marks.new }
 {
-    if held_back(image, part) {
+    let held = held_back(image, part);
+    if held {
         return Placed {
             refusal: 0,
             count: count,

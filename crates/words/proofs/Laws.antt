@@ -43,10 +43,10 @@ filled-end f out i h l =
     ext_get_or 0 out (up_to f 64) (h.long ∙ sym (up-length f 64)) (λ j k. h.each j (omega (arith, k, l, h.long)) ∙ sym (up_at f 64 j 0 (omega (arith, k, h.long))))
 
 -- inside a list what stands past its end is never read
-pub get_d_any : (l : List ℕ) (j d e : ℕ) → j < length l → get_or l j d ≡ get_or l j e
-get_d_any [] j d e h = absurd (omega (arith, h))
-get_d_any (x ∷ l) zero d e h = refl
-get_d_any (x ∷ l) (suc j) d e h = get_d_any l j d e (omega (arith, h))
+pub get_or-any : (l : List ℕ) (j d e : ℕ) → j < length l → get_or l j d ≡ get_or l j e
+get_or-any [] j d e h = absurd (omega (arith, h))
+get_or-any (x ∷ l) zero d e h = refl
+get_or-any (x ∷ l) (suc j) d e h = get_or-any l j d e (omega (arith, h))
 
 -- the last byte is no space
 pub trimmed-here : (text : List ℕ) (n : ℕ) → 0 < n → (get_or text (n - 1) 0 ≡ 32 → ⊥) → trimmed_to text n ≡ n
