@@ -184,11 +184,8 @@ pub fn of_peek_all(s: AbsStack) -> Outcome
     requires { WellFormed max_len s }
     ensures { IsOutcome (of_peek_all (state_of s)) result }
 {
-    if s.all_blank() {
-        succeeds(s)
-    } else {
-        either(s)
-    }
+    let blank = s.all_blank();
+    if blank { succeeds(s) } else { either(s) }
 }
 
 // POP_ALL: failed, it has removed some of the entries.
@@ -215,9 +212,10 @@ fn of_top(s: AbsStack, after: AbsStack) -> Outcome
     requires { WellFormed max_len s × WellFormed max_len after }
     ensures { IsOutcome (of_top (state_of s) (state_of after)) result }
 {
+    let matched = s.top_blank();
     if s.is_empty() {
         never()
-    } else if s.top_blank() {
+    } else if matched {
         succeeds(after)
     } else {
         either(after)

@@ -1,8 +1,8 @@
 -- A report is the definition's, in every world that the tables stand for. Assumes nothing.
 use mathlib.Core.Path.{◌≡◌, refl, ap, ◌∙◌}
 use mathlib.Core.Bool.{Bool, true, false, ◌&&◌, not}
-use mathlib.Core.List.{List, [], ◌∷◌, ◌++◌}
-use Prim.Native.Nat.{ℕ, suc, ◌-◌, ◌/◌, ◌<◌}
+use mathlib.Core.List.{List, ◌++◌}
+use Prim.Native.Nat.{ℕ, ◌-◌, ◌/◌, ◌<◌}
 use native.Mathlib.Omega.{arith}
 use lib.Dec.{eqb, ltb, lit<}
 use lib.ListN.{length, get_or, length-append}
@@ -12,7 +12,7 @@ use Rattle.stack.specs.State.{max_len}
 use Rattle.stack.specs.Promise.{state_of, WellFormed}
 use Rattle.stack.proofs.Numbers.{bit-eqb}
 use Rattle.image.specs.Grammar.{grammar}
-use Rattle.asking.specs.World.{Pair, World, has_node}
+use Rattle.asking.specs.World.{World, has_node}
 use Rattle.asking.specs.Reading.{held_back}
 use Rattle.asking.specs.Runs.{loops}
 use Rattle.asking.specs.StackPass.{loop_reports, setup_of}

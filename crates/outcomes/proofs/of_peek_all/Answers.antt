@@ -2,8 +2,8 @@
 use mathlib.Core.Path.{sym, ◌∙◌}
 use Rattle.outcomes.proofs.of_peek_all.Goals as goal
 
-pub returns-then-all_blank : goal.returns-then-all_blank
-returns-then-all_blank c = rw (sym c.all_blank.ensures ∙ c.if-all_blank.true) c.succeeds.ensures
+pub returns-then-blank : goal.returns-then-blank
+returns-then-blank c = rw (sym c.all_blank-blank.ensures ∙ c.if-blank.true) c.succeeds.ensures
 
-pub returns-else-all_blank : goal.returns-else-all_blank
-returns-else-all_blank c = rw (sym c.all_blank.ensures ∙ c.if-all_blank.false) c.either.ensures
+pub returns-else-blank : goal.returns-else-blank
+returns-else-blank c = rw (sym c.all_blank-blank.ensures ∙ c.if-blank.false) c.either.ensures

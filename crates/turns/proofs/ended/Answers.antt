@@ -1,5 +1,4 @@
 -- `turns::ended` meets its contract. Assumes nothing.
-use borrow.Author.Rules.{rules}
 use Rattle.turns.proofs.Copies.{inside-period, period-ended}
 use Rattle.turns.proofs.ended.Goals as goal
 

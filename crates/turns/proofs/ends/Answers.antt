@@ -1,5 +1,4 @@
 -- `turns::ends` meets its contract. Assumes nothing.
-use borrow.Author.Rules.{rules}
 use Rattle.turns.proofs.Copies.{ends_more}
 use Rattle.turns.proofs.ends.Goals as goal
 

@@ -1,5 +1,4 @@
 -- `turns::hunt_on` meets its contract. Assumes nothing.
-use borrow.Author.Rules.{rules}
 use borrow.Author.Tests.{not-true, not-false}
 use Rattle.turns.proofs.Hunts.{packed-number, hunt-cleared, hunt-loops, hunt-further}
 use Rattle.turns.proofs.hunt_on.Goals as goal

@@ -1,5 +1,4 @@
 -- `turns::next` meets its contract. Assumes nothing.
-use borrow.Author.Rules.{rules}
 use Rattle.turns.proofs.Copies.{next-optional}
 use Rattle.turns.proofs.next.Goals as goal
 

@@ -1,5 +1,4 @@
 -- `turns::report` meets its contract. Assumes nothing.
-use borrow.Author.Rules.{rules}
 use Rattle.turns.proofs.Placing.{report-held, report-marked, report-full, report-placed}
 use Rattle.turns.proofs.report.Goals as goal
 

@@ -1,5 +1,4 @@
 -- `turns::restored` meets its contract. Assumes nothing.
-use borrow.Author.Rules.{rules}
 use Rattle.outcomes.proofs.Made.{is_state, state-self}
 use Rattle.turns.proofs.restored.Goals as goal
 

@@ -1,5 +1,4 @@
 -- `turns::turned` meets its contract. Assumes nothing.
-use borrow.Author.Rules.{rules}
 use Rattle.turns.proofs.Copies.{turned-end, turned_on}
 use Rattle.turns.proofs.turned.Goals as goal
 
