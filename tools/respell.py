@@ -1,7 +1,7 @@
 #!/usr/bin/env python3
 """Brings this repository's own definitions and lemmas to today's spelling: words in snake case.
 
-usage: python3 tools/respell.py        at the top of the repository, after /opt/rattle/port/port.py and before any edit by hand
+usage: python3 tools/respell.py        at the top of the repository, after the kit's port/port.py and before any edit by hand
        python3 tools/respell.py names  prints the names it would turn, and those that fall together with another name
 
 It turns specs/, proofs/ and src/ (there only names of specs/ and proofs/ are in lower camel case). Strings and comments
