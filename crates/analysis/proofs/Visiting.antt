@@ -131,8 +131,8 @@ module _ {image names memo walked table marks : List ℕ} {c : Ctx} {s : AbsStac
             (λ S W. and_then (step S (visit S (c.left - 1)) false n (state_of s) W) (λ o W₁. given o (closes n (state_of s) o W₁))))
             (sym placed) (outcome-opens (c.left - 1) n (state_of s) within few i (memo-at e))
 
-        pub outcome-ready : Ready image names (tables memo' walked table marks) (record { left = c.left - 1; walking = false; skips = c.skips; count = c.count }) s
-        outcome-ready = record { read = h.read; skips = h.skips; standing = along-standing opened h.standing; state = h.state }
+        pub outcome-ready : (walking : Bool) → Ready image names (tables memo' walked table marks) (record { left = c.left - 1; walking = walking; skips = c.skips; count = c.count }) s
+        outcome-ready walking = record { read = h.read; skips = h.skips; standing = along-standing opened h.standing; state = h.state }
 
         module _ {a : Ans} {memo₂ walked₂ table₂ marks₂ : List ℕ}
             (asked : Answering image (tables memo' walked table marks) c.count (λ S W. step S (visit S (c.left - 1)) false n (state_of s) W) (λ o. IsOutcome o a.out) a.refusal a.count (tables memo₂ walked₂ table₂ marks₂)) where
@@ -141,7 +141,7 @@ module _ {image names memo walked table marks : List ℕ} {c : Ctx} {s : AbsStac
           outcome-refused y = rw some_left (along-answer opened (refused-on asked (λ S o W₁. given o (closes n (state_of s) o W₁)) y))
 
           pub outcome-formed : a.refusal ≡ 0 → Formed a.out
-          outcome-formed y = asked-formed outcome-ready asked y
+          outcome-formed y = asked-formed (outcome-ready false) asked y
 
           pub outcome-stored : a.refusal ≡ 0 → {v : ℕ} → v ≡ outcome_number (outcome_of a.out) → {memo₃ : List ℕ} → memo₃ ≡ set_value 4 8 memo₂ i v
               → Asked image (tables memo walked table marks) c (λ S W. visit S c.left false n (state_of s) W) a (tables memo₃ walked₂ table₂ marks₂)

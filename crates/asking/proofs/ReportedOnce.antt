@@ -124,7 +124,7 @@ module _ (ask : Ask) (h : Asks ask) where
 
           at_out : (t : Bool) → Fair (loops_out ask part rest cur past out W₁ t)
           at_out true = at_seen (any_same_top out (cur ∷ past))
-          at_out false = ih out [] W₁ k₁
+          at_out false = ih out _ W₁ k₁
 
 module _ (S : Setup) (ask : Ask) (h : Asks ask) (walking : Bool) (n : ℕ) (s : State) where
   one-part : (part : ℕ) (W : World) (f : Outcome → Outcome) → Once W.reports → Fair (and_then (ask walking part s W) (λ o W₁. given (f o) W₁))
@@ -156,8 +156,8 @@ module _ (S : Setup) (ask : Ask) (h : Asks ask) (walking : Bool) (n : ℕ) (s : 
   unfolding repeat_unbounded
   unbounded-fair part required W k =
       then-fair (searched S ask walking n part s W) _ (searched-fair walking part W k)
-      (λ u W₁ k₁. then-fair (steps ask walking part true starts required [] s (not S.nodes.skips) false W₁) _
-      (steps-fair ask h walking part true starts required [] s (not S.nodes.skips) false W₁ k₁)
+      (λ u W₁ k₁. then-fair _ _
+      (steps-fair ask h walking part true starts required [] s _ false W₁ k₁)
       (λ r W₂ k₂. rest r W₂ k₂ r.end))
     where
       rest : (r : Ran) (W₂ : World) → Once W₂.reports → (mid : Maybe) → Fair (unbounded_rest S ask walking part s r.empty r.fails W₂ mid)

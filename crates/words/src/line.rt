@@ -1,6 +1,7 @@
 // Names as lines that can be shown, and texts without the spaces behind them.
 ghost use Rattle.std.specs.Prelude.{◌≡◌, get_or};
-ghost use Rattle.words.specs.Line.{plain as Line·plain, plain_line, Trimmed};
+ghost use Rattle.words.specs.Line as Line;
+ghost use Rattle.words.specs.Line.{plain_line, Trimmed};
 
 // The byte at a place, a space past the end.
 fn spaced(text: &[u8], j: usize) -> u8
@@ -11,7 +12,7 @@ fn spaced(text: &[u8], j: usize) -> u8
 
 // A byte that a terminal only shows: itself from space to tilde, else a question mark.
 fn plain(b: u8) -> u8
-    ensures { result ≡ Line·plain b }
+    ensures { result ≡ Line.plain b }
 {
     if b < 32 {
         63

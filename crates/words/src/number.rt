@@ -1,11 +1,12 @@
 // A number read from decimal digits, and one as a length within a buffer.
 ghost use Rattle.std.specs.Prelude.{◌≡◌, ◌≤◌, length};
-ghost use Rattle.words.specs.Number.{step as Number-step, number_to, Within};
+ghost use Rattle.words.specs.Number as Number;
+ghost use Rattle.words.specs.Number.{number_to, Within};
 
 // The number after one more byte; what is no digit, or past 32 bits, gives 2^32.
 fn step(n: u64, b: u8) -> u64
     requires { n ≤ 4294967296 }
-    ensures { (result ≡ Number-step n b) × (result ≤ 4294967296) }
+    ensures { (result ≡ Number.step n b) × (result ≤ 4294967296) }
 {
     if b < 48 {
         return 4294967296;

@@ -2,7 +2,8 @@
 ghost use Rattle.std.specs.Prelude.{◌≡◌, cond, eqb};
 ghost use Rattle.image.specs.Accepted.{Accepted};
 ghost use Rattle.image.specs.Grammar.{grammar};
-ghost use Rattle.words.specs.Owner.{is_part, top, rule_of, owner as Owner·owner};
+ghost use Rattle.words.specs.Owner as Owner;
+ghost use Rattle.words.specs.Owner.{is_part, top, rule_of};
 
 use image::access::{expr_at, node_count, root_at, rule_count};
 use image::expr::{Expr, Parts, parts_in};
@@ -66,7 +67,7 @@ fn rule_of(image: &[u8], root: usize) -> usize
 // The number of the rule that owns a node; 0 where none does, which no accepted image has.
 pub fn owner(image: &[u8], n: usize) -> usize
     requires { Accepted image.now }
-    ensures { result ≡ Owner·owner (grammar image.now) n }
+    ensures { result ≡ Owner.owner (grammar image.now) n }
 {
     rule_of(image, top_of(image, n))
 }

@@ -1,10 +1,11 @@
 // A stack as a picture: its tracked entries from the bottom to the top, each as a cell.
 ghost use Rattle.std.specs.Prelude.{◌≡◌, ◌<◌, get_or, length};
-ghost use Rattle.words.specs.Picture.{is_entry, is_blank, cell_byte, picture as Picture·picture, entries as Picture·entries};
+ghost use Rattle.words.specs.Picture as Picture;
+ghost use Rattle.words.specs.Picture.{is_entry, is_blank, cell_byte};
 
 // How many entries are tracked in the state of a number.
 pub fn entries(state: u64) -> u64
-    ensures { result ≡ Picture·entries state }
+    ensures { result ≡ Picture.entries state }
 {
     state / 256 % 16
 }
@@ -51,7 +52,7 @@ fn cell_byte(state: u64, j: usize) -> u8
 
 // The picture of a state: a cell of 8 bytes for each entry, the bottom one first, then spaces.
 pub fn picture(state: u64) -> [u8; 64]
-    ensures { result ≡ Picture·picture state }
+    ensures { result ≡ Picture.picture state }
 {
     let mut out = [32u8; 64];
     let mut j = 0;

@@ -1,10 +1,10 @@
 // The texts of refusals, reasons, kinds, and of what lies below a stack's entries, each with spaces behind it to 64 bytes.
 ghost use Rattle.std.specs.Prelude.{◌≡◌};
-ghost use Rattle.words.specs.Texts.{refusal as Texts·refusal, reason as Texts·reason, why as Texts·why, kind as Texts·kind, below as Texts·below};
+ghost use Rattle.words.specs.Texts as Texts;
 
 // What a refusal means.
 pub fn refusal(k: u64) -> [u8; 64]
-    ensures { result ≡ Texts·refusal k }
+    ensures { result ≡ Texts.refusal k }
 {
     match k {
         0 => *b"done                                                            ",
@@ -27,7 +27,7 @@ pub fn refusal(k: u64) -> [u8; 64]
 
 // The name of a reason.
 pub fn reason(k: u64) -> [u8; 64]
-    ensures { result ≡ Texts·reason k }
+    ensures { result ≡ Texts.reason k }
 {
     match k {
         0 => *b"no reason has this number                                       ",
@@ -42,7 +42,7 @@ pub fn reason(k: u64) -> [u8; 64]
 
 // A reason in a sentence.
 pub fn why(k: u64) -> [u8; 64]
-    ensures { result ≡ Texts·why k }
+    ensures { result ≡ Texts.why k }
 {
     match k {
         0 => *b"Nothing is known of it.                                         ",
@@ -57,7 +57,7 @@ pub fn why(k: u64) -> [u8; 64]
 
 // The name of a kind.
 pub fn kind(k: u8) -> [u8; 64]
-    ensures { result ≡ Texts·kind k }
+    ensures { result ≡ Texts.kind k }
 {
     match k {
         0 => *b"no kind                                                         ",
@@ -86,7 +86,7 @@ pub fn kind(k: u8) -> [u8; 64]
 
 // What lies below the tracked entries: of a state's number the base and intact, base + 4 × intact.
 pub fn below(k: u64) -> [u8; 64]
-    ensures { result ≡ Texts·below k }
+    ensures { result ≡ Texts.below k }
 {
     match k {
         0 => *b"nothing                                                         ",

@@ -1,4 +1,4 @@
--- What each member of the cycle of calls needs. Assumes nothing.
+-- The stack pass in one cycle of calls, `visit` to `search_turn`: what each member needs. Assumes nothing.
 use native.Mathlib.Omega.{arith}
 use Rattle.analysis.proofs.On.{asked-formed, ready_on, state-formed, ran-formed}
 use Rattle.analysis.proofs.Parts.{around-refuses, around-answers, choice-refuses, choice-ends, choice-refuses-right, choice-answers, seq-refuses, seq-ends, seq-refuses-right, seq-answers}
@@ -220,7 +220,7 @@ pub outcome-overflow_sub-inner : goal.outcome-overflow_sub-inner
 outcome-overflow_sub-inner t c = let z = c.if-left-eq0.false in omega arith
 
 pub outcome-step-a-requires : goal.outcome-step-a-requires
-outcome-step-a-requires t c = (let z = c.if-left-eq0.false in omega (arith, c.decreases), (outcome-ready c.requires.0 c.args.n c.requires.1 c.if-left-eq0.false c.key-k.ensures c.find8-p.ensures c.in-Free.is c.enter8.ensures, c.requires.1))
+outcome-step-a-requires t c = (let z = c.if-left-eq0.false in omega (arith, c.decreases), (outcome-ready c.requires.0 c.args.n c.requires.1 c.if-left-eq0.false c.key-k.ensures c.find8-p.ensures c.in-Free.is c.enter8.ensures _, c.requires.1))
 
 pub outcome-returns-then-a-ne0 : goal.outcome-returns-then-a-ne0
 outcome-returns-then-a-ne0 t c = outcome-refused c.requires.0 c.args.n c.requires.1 c.if-left-eq0.false c.key-k.ensures c.find8-p.ensures c.in-Free.is c.enter8.ensures c.step-a.ensures c.if-a-ne0.true

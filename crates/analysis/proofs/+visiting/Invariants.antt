@@ -1,4 +1,4 @@
--- The measures of the cycle of calls. Assumes nothing.
+-- The stack pass in one cycle of calls: the measure of each member, 8 × the open nodes left and a rank, and what the three loops keep. Assumes nothing.
 use Prim.Native.Nat.{◌-◌, ◌*◌, ◌+◌}
 use Rattle.standing.specs.Answers.{tables}
 use Rattle.analysis.proofs.Loops.{Roaming, Searching, Stepping}

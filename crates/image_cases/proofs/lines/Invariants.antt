@@ -1,4 +1,4 @@
--- The loop of `image_cases::lines`: each turn goes past the end of a line.
+-- `image_cases::lines` is safe and ends: each turn goes past the end of a line. Assumes nothing.
 use Rattle.std.proofs.Common.{◌≤◌, ◌+◌, ◌-◌, length}
 use Rattle.image_cases.proofs.lines.Given as goal
 

@@ -1,4 +1,4 @@
--- The loop of `replay::cases`: a turn for each case; no buffer changes its length.
+-- `replay::cases` is safe and ends: each turn has one case more. Assumes nothing.
 use Rattle.std.proofs.Common.{◌≡◌, ◌≤◌, ◌-◌, length}
 use Rattle.replay.proofs.cases.Given as goal
 

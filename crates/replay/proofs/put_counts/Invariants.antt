@@ -1,4 +1,4 @@
--- The loop of `replay::put_counts`: a turn for each count.
+-- `replay::put_counts` is safe and ends. Assumes nothing.
 use Rattle.std.proofs.Common.{◌≤◌, ◌-◌}
 use Rattle.replay.proofs.put_counts.Given as goal
 

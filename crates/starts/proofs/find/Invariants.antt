@@ -1,3 +1,4 @@
+-- `starts::find` meets its contract. The invariant: what the search from here finds is what the whole search finds. Assumes nothing.
 use Rattle.starts.proofs.Spots.{Finding}
 use Rattle.starts.proofs.find.Given as goal
 

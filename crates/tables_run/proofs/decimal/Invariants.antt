@@ -1,4 +1,4 @@
--- The loop of `tables_run::decimal`: the index stays within `out`, and falls.
+-- `tables_run::decimal` is safe and ends. Assumes nothing.
 use Rattle.std.proofs.Common.{◌≤◌, length}
 use Rattle.tables_run.proofs.decimal.Given as goal
 

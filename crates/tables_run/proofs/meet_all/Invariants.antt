@@ -1,4 +1,4 @@
--- The loop of `tables_run::meet_all`: the index stays within `out`, whose length stays.
+-- `tables_run::meet_all` is safe and ends. Assumes nothing.
 use Rattle.std.proofs.Common.{◌≡◌, ◌≤◌, ◌-◌, length}
 use Rattle.tables_run.proofs.meet_all.Given as goal
 

@@ -1,3 +1,4 @@
+-- `thatchnip::only_rules` meets its contract. Assumes nothing.
 use native.Mathlib.Omega.{arith}
 use Rattle.thatchnip.proofs.Entry.{rules-start, rules-next, rules-end}
 use Rattle.thatchnip.proofs.only_rules.Goals as goal

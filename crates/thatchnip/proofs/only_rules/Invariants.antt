@@ -1,3 +1,4 @@
+-- `thatchnip::only_rules` meets its contract. Assumes nothing.
 use Prim.Native.Nat.{◌-◌}
 use Rattle.thatchnip.proofs.Entry.{RulesSoFar}
 use Rattle.thatchnip.proofs.only_rules.Given as goal

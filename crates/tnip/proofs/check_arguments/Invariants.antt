@@ -1,4 +1,4 @@
--- The loop of `tnip::check_arguments`: no table changes its length.
+-- `tnip::check_arguments` is safe and ends: each turn has one argument fewer. Assumes nothing.
 use Rattle.std.proofs.Common.{◌≡◌, length}
 use Rattle.tnip.proofs.check_arguments.Given as goal
 

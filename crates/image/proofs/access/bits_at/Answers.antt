@@ -1,3 +1,4 @@
+-- `image::access::bits_at` meets its contract. Assumes nothing.
 use native.Mathlib.Omega.{arith}
 use Rattle.image.proofs.GrammarLaws.{counted, bits-of-node}
 use mathlib.Core.Path.{◌≡◌}

@@ -1,3 +1,4 @@
+-- `image::access::expr_at` meets its contract. Assumes nothing.
 use native.Mathlib.Omega.{arith}
 use Rattle.image.proofs.GrammarLaws.{counted, expr-of-node, numbers-kept, parts_below_lem, text-inside}
 use mathlib.Core.Path.{◌≡◌, sym, ◌∙◌}

@@ -1,3 +1,4 @@
+-- `image::access::find_rule` meets its contract. The invariant: the rule of the name is the first among those from `i` on. Assumes nothing.
 use native.Mathlib.Omega.{arith}
 use Rattle.image.proofs.GrammarLaws.{counted, name-of-rule}
 use mathlib.Core.Path.{◌≡◌, sym, subst, ◌∙◌}

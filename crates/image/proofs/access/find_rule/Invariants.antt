@@ -1,3 +1,4 @@
+-- `image::access::find_rule` meets its contract. The invariant: the rule of the name is the first among those from `i` on. Assumes nothing.
 use mathlib.Core.Path.{◌≡◌}
 use Prim.Native.Nat.{◌≤◌, ◌-◌}
 use lib.ListN.{drop}

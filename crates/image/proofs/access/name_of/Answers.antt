@@ -1,3 +1,4 @@
+-- `image::access::name_of` meets its contract. Assumes nothing.
 use native.Mathlib.Omega.{arith}
 use Rattle.image.proofs.GrammarLaws.{counted, name-of-rule}
 use mathlib.Core.Path.{sym, ◌∙◌}

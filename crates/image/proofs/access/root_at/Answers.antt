@@ -1,3 +1,4 @@
+-- `image::access::root_at` meets its contract. Assumes nothing.
 use native.Mathlib.Omega.{arith}
 use Rattle.image.proofs.GrammarLaws.{counted, root-of-rule}
 use mathlib.Core.Path.{◌≡◌}

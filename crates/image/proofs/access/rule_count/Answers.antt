@@ -1,3 +1,4 @@
+-- `image::access::rule_count` meets its contract. Assumes nothing.
 use native.Mathlib.Omega.{arith}
 use Rattle.image.proofs.GrammarLaws.{counted}
 use mathlib.Core.Path.{sym, ◌∙◌}

@@ -1,3 +1,4 @@
+-- `image::access::span_at` meets its contract. Assumes nothing.
 use native.Mathlib.Omega.{arith}
 use Rattle.image.proofs.GrammarLaws.{counted, start-of-node, end-of-node}
 use Prim.Native.Nat.{◌<◌}

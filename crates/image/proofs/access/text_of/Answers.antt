@@ -1,3 +1,4 @@
+-- `image::access::text_of` meets its contract. Assumes nothing.
 use native.Mathlib.Omega.{arith}
 use Rattle.image.proofs.GrammarLaws.{counted}
 use Rattle.image.specs.Grammar.{grammar, text_of}

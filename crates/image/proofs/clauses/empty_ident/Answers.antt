@@ -1,3 +1,4 @@
+-- `image::clauses::empty_ident` meets its contract. Assumes nothing.
 use borrow.Author.Tests.{eq-eqb, ne_eqb}
 use Rattle.image.proofs.clauses.empty_ident.Goals as goal
 

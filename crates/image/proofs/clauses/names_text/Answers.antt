@@ -1,3 +1,4 @@
+-- `image::clauses::names_text` meets its contract. Assumes nothing.
 use borrow.Author.Tests.{eq-eqb, ne_eqb}
 use Rattle.image.proofs.clauses.names_text.Goals as goal
 

@@ -1,3 +1,4 @@
+-- `image::clauses::outside` meets its contract: a difference that is known to be none below zero stands in for the sum. Assumes nothing.
 use borrow.Author.Tests.{lt-ltb}
 use Rattle.image.proofs.Tests.{ltb_iff}
 use native.Mathlib.Omega.{arith}

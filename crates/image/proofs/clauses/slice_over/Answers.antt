@@ -1,3 +1,4 @@
+-- `image::clauses::slice_over` meets its contract. Assumes nothing.
 use borrow.Author.Tests.{eq-eqb, ne_eqb}
 use Rattle.image.proofs.clauses.slice_over.Goals as goal
 

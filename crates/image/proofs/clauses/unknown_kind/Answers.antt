@@ -1,3 +1,4 @@
+-- `image::clauses::unknown_kind` meets its contract. Assumes nothing.
 use borrow.Author.Tests.{eq-eqb, ne_eqb}
 use Rattle.image.proofs.clauses.unknown_kind.Goals as goal
 

@@ -1,3 +1,4 @@
+-- `image::expr::end_of` meets its contract. Assumes nothing.
 use borrow.Author.Tests.{eq-eqb, ne_eqb}
 use Rattle.image.proofs.expr.end_of.Goals as goal
 

@@ -1,3 +1,4 @@
+-- `image::fields::expr_of` meets its contract, kind by kind. Assumes nothing.
 use borrow.Author.Tests.{ne_eqb}
 use Rattle.image.specs.Kinds.{expr_of}
 use Rattle.image.proofs.fields.expr_of.Goals as goal

@@ -1,3 +1,4 @@
+-- `image::names::same_bytes` meets its contract. The invariant: the lists from `i` on compare as the whole lists do. Assumes nothing.
 use native.Mathlib.Omega.{arith}
 use mathlib.Core.Path.{refl, sym, ◌∙◌}
 use Rattle.image.proofs.ListLaws.{same_none, same-differ, same-agree, same-past}

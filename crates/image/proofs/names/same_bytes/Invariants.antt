@@ -1,3 +1,4 @@
+-- `image::names::same_bytes` meets its contract. The invariant: the lists from `i` on compare as the whole lists do. Assumes nothing.
 use mathlib.Core.Path.{◌≡◌}
 use Prim.Native.Nat.{◌≤◌, ◌-◌}
 use lib.ListN.{length, drop}

@@ -1,3 +1,4 @@
+-- `outcomes::word::decode` meets its contract. Assumes nothing.
 use native.Mathlib.Omega.{arith}
 use Prim.Native.Nat.{◌/◌}
 use Rattle.outcomes.proofs.Fields.{field, ok-number, err-number, decode-law}

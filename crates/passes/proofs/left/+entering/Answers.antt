@@ -1,4 +1,4 @@
--- What each member of the cycle of calls needs. Assumes nothing.
+-- The left search in one cycle of calls, `enter`, `check_both` and `check_name`: what each member needs. Assumes nothing.
 use Prim.Native.Nat.{◌+◌, ◌-◌}
 use native.Mathlib.Omega.{arith}
 use Rattle.image.specs.Grammar.{grammar}

@@ -1,4 +1,4 @@
--- The measures of the cycle of calls. Assumes nothing.
+-- The left search in one cycle of calls: the measure of each member. Assumes nothing.
 use Prim.Native.Nat.{◌+◌, ◌*◌}
 use Rattle.passes.proofs.left.+entering.Given as goal
 

@@ -1,3 +1,4 @@
+-- `passes::left::home` meets its contract. Assumes nothing.
 use Rattle.passes.proofs.Searching.{home-is}
 use Rattle.passes.proofs.left.home.Goals as goal
 

@@ -1,4 +1,4 @@
--- What each member of the cycle of calls needs. Assumes nothing.
+-- `passes::topdown::walk` calls itself: what its steps need. Assumes nothing.
 use native.Mathlib.Omega.{arith}
 use mathlib.Core.Path.{◌∙◌}
 use Rattle.image.specs.Grammar.{grammar}

@@ -1,4 +1,4 @@
--- The measures of the cycle of calls. Assumes nothing.
+-- `passes::topdown::walk` calls itself: its measure is the node's number. Assumes nothing.
 use Rattle.passes.proofs.topdown.+walk.Given as goal
 
 abbrev pub decreases-walk : goal.decreases-walk

@@ -1,3 +1,4 @@
+-- `passes::topdown::is_repeat` meets its contract. Assumes nothing.
 use borrow.Author.Tests.{eq-eqb, ne_eqb}
 use Rattle.passes.proofs.topdown.is_repeat.Goals as goal
 

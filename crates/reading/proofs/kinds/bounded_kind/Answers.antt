@@ -1,3 +1,4 @@
+-- `reading::kinds::bounded_kind` meets its contract. Assumes nothing.
 use native.Mathlib.Omega.{arith}
 use Rattle.reading.proofs.KindLaws.{bounds-ordered, bounds-crossed}
 use Rattle.reading.proofs.kinds.bounded_kind.Goals as goal

@@ -1,3 +1,4 @@
+-- `reading::kinds::slice_kind` meets its contract. Assumes nothing.
 use Rattle.reading.proofs.KindLaws.{slice-off, slice_all, slice-none, slice-some}
 use Rattle.reading.proofs.kinds.slice_kind.Goals as goal
 

@@ -1,3 +1,4 @@
+-- `reading::kinds::text_kind` meets its contract. Assumes nothing.
 use Rattle.reading.proofs.KindLaws.{text-empty, text-some}
 use Rattle.reading.proofs.kinds.text_kind.Goals as goal
 

@@ -1,3 +1,5 @@
+-- `reading::names::resolve` meets its contract. The invariant of both loops: the words below `n` are settled; the second begins past the
+-- last node. Assumes nothing.
 use Prim.Native.Nat.{◌<◌}
 use mathlib.Core.Path.{refl, sym, ◌∙◌}
 use native.Mathlib.Nat.{not-suc-le-zero}

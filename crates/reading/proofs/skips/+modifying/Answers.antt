@@ -1,4 +1,4 @@
--- What each member of the cycle of calls needs. Assumes nothing.
+-- `rule_modifies`, `name_modifies`, `found_modifies` and `node_modifies` in one cycle of calls: what each member needs. Assumes nothing.
 use Prim.Native.Nat.{suc, ◌<◌, ◌-◌}
 use native.Mathlib.Omega.{arith}
 use Rattle.reading.proofs.MarkLaws.{found-rule-follows, found-none-follows, not-changes, name-changes, name-rule, node-follows, node-keeps, node-changes, node-one, node-left, node-right, rule-out, rule-seen, rule-new}

@@ -1,4 +1,4 @@
--- The measures of the cycle of calls. Assumes nothing.
+-- The measures of the cycle of calls: rules left unseen, then the node number. Assumes nothing.
 use Prim.Native.Nat.{◌+◌, ◌*◌}
 use Rattle.reading.proofs.skips.+modifying.Given as goal
 

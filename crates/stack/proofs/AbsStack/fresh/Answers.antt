@@ -1,3 +1,4 @@
+-- `stack::AbsStack::fresh` meets its contract. Assumes nothing.
 use mathlib.Core.Path.{refl}
 use Rattle.stack.specs.State.{fresh}
 use Rattle.stack.proofs.AbsStack.fresh.Goals as goal

@@ -1,3 +1,4 @@
+-- `stack::AbsStack::non_empty` meets its contract. Assumes nothing.
 use Rattle.stack.proofs.Fields.{non-empty-law}
 use Rattle.stack.proofs.AbsStack.non_empty.Goals as goal
 

@@ -1,3 +1,4 @@
+-- `stack::number::base_at` meets its contract. Assumes nothing.
 use borrow.Author.Tests.{eq-eqb, ne_eqb}
 use Rattle.stack.proofs.number.base_at.Goals as goal
 

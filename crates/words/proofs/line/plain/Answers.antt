@@ -1,3 +1,4 @@
+-- `words::line::plain` meets its contract. Assumes nothing.
 use borrow.Author.Tests.{lt-ltb, le-ltb}
 use Rattle.words.proofs.line.plain.Goals as goal
 

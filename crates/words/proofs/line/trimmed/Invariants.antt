@@ -1,3 +1,4 @@
+-- `words::line::trimmed` meets its contract: the invariant is that all bytes from n on are spaces. Assumes nothing.
 use mathlib.Core.Path.{◌≡◌, sym, ap, refl, ◌∙◌}
 use native.Mathlib.Omega.{arith}
 use Prim.Native.Nat.{◌≤◌}

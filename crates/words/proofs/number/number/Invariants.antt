@@ -1,3 +1,4 @@
+-- `words::number::number` meets its contract: the invariant is that n is the number of the first i bytes. Assumes nothing.
 use mathlib.Core.Path.{◌≡◌, refl, sym, ap, ◌∙◌}
 use native.Mathlib.Omega.{arith}
 use Prim.Native.Nat.{ℕ, ◌≤◌, ◌-◌}

@@ -1,3 +1,4 @@
+-- `words::owner::chosen` meets its contract. Assumes nothing.
 use borrow.Author.Tests.{eq-eqb, ne_eqb}
 use Rattle.words.proofs.owner.chosen.Goals as goal
 

@@ -1,3 +1,4 @@
+-- `words::owner::rule_of` meets its contract: the invariant is that `rule` is the one among those below i. Assumes nothing.
 use mathlib.Core.Path.{◌≡◌, refl, ap, ◌∙◌}
 use native.Mathlib.Omega.{arith}
 use Prim.Native.Nat.{◌≤◌, ◌-◌}

@@ -1,3 +1,4 @@
+-- `words::owner::top_of` meets its contract: the invariant is that `at` is reached by way of the nodes below m. Assumes nothing.
 use mathlib.Core.Path.{◌≡◌, refl, ap, ◌∙◌}
 use native.Mathlib.Omega.{arith}
 use Prim.Native.Nat.{◌≤◌, ◌-◌}

@@ -1,3 +1,4 @@
+-- `words::picture::picture` meets its contract: the invariant is that the bytes before j are set. Assumes nothing.
 use mathlib.Core.Path.{refl}
 use native.Mathlib.Omega.{arith}
 use Prim.Native.Nat.{◌-◌}

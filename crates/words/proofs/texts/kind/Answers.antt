@@ -1,3 +1,4 @@
+-- `words::texts::kind` meets its contract, text by text. Assumes nothing.
 use lib.ListN.{get_or-eq_default}
 use Rattle.words.proofs.Laws.{past}
 use Rattle.words.specs.Texts.{kind, kinds}
