@@ -110,11 +110,11 @@ fn against(rows: &[Row]) {
 
 fn stack_pass(rows: &[Row]) {
     head(
-        "The stack pass alone. Ours: the calls of `analysis::visit` from the entry. Rust: `validate_stack_repetition`.",
+        "The stack pass alone. Ours: the calls of `analysis::Pass` from the entry. Rust: `validate_stack_repetition`.",
         &["Input", "Pairs asked", "Pairs walked", "Ours", "Rust", "Ours / Rust"],
     );
     for r in rows {
-        let (ours, rust) = (r.entry("twice", "analysis::visit"), r.total("rust stack"));
+        let (ours, rust) = (r.entry("twice", "analysis::Pass::"), r.total("rust stack"));
         let counts = [r.asked, r.walked, ours, rust].map(number);
         line(&r.label, &[&counts[..], &[ratio(ours, rust)]].concat());
     }
@@ -128,9 +128,9 @@ fn our_parts(rows: &[Row]) {
     for r in rows {
         let below = |to: &str| r.entry("twice", to);
         let counts = [
-            below("analysis::visit"),
+            below("analysis::Pass::"),
             below("topdown::walk"),
-            below("left::enter"),
+            below("left::Quest::enter"),
             below("part_rule_broken"),
             below("memset"),
             r.of("twice").own("thatchnip_check"),

@@ -1,115 +1,97 @@
--- Nodes with parts: a predicate, an optional, a Push, a sequence and a choice, from the outcomes of their parts. Assumes nothing.
+-- Nodes with parts: one part, a sequence and a choice, from the outcomes of their parts. Assumes nothing.
+use Rattle.std.specs.Prelude.{Some, None, Option, Result, Ok, Err}
 use mathlib.Core.Path.{◌≡◌, sym, ap, ◌∙◌}
-use mathlib.Core.List.{List}
 use Prim.Native.Nat.{ℕ}
 use Rattle.stack.specs.declared.AbsStack.{AbsStack}
 use Rattle.stack.specs.Promise.{state_of}
+use Rattle.image.specs.declared.refusal.Refusal.{Refusal}
 use Rattle.machine.specs.Outcome.{Maybe, Outcome, never, failed, of_seq, of_choice}
-use Rattle.asking.specs.World.{given, and_then}
+use Rattle.asking.specs.World.{Setup, World, Answer, given, and_then}
 use Rattle.asking.specs.Ask.{visit, seq_rest, choice_rest}
-use Rattle.outcomes.specs.declared.Maybe.TheVariants as M
-use Rattle.outcomes.specs.declared.Maybe as Code
-use Rattle.outcomes.specs.declared.Outcome as CodeO
+use Rattle.outcomes.specs.declared.Outcome as Code
 use Rattle.outcomes.specs.Promise.{maybe_of, outcome_of, IsMaybe, IsOutcome}
-use Rattle.standing.specs.Stands.{Tables}
 use Rattle.standing.specs.Answers.{setup_for}
-use Rattle.standing.proofs.Along.{refused-on, answering_by}
-use Rattle.analysis.specs.declared.Ctx.{Ctx}
-use Rattle.analysis.specs.declared.Ans.{Ans}
-use Rattle.turns.specs.declared.OnePart.{OnePart}
-use Rattle.turns.specs.Promise.{wrap_of}
-use Rattle.analysis.specs.Promise.{Ready, Asked}
-use Rattle.analysis.proofs.On.{setup-skips, asked-on, answers}
+use Rattle.analysis.specs.declared.Pass.{Pass}
+use Rattle.analysis.specs.declared.Down.{Down}
+use Rattle.analysis.specs.Methods.{SamePass, Ready, Answers}
+use Rattle.analysis.proofs.On.{setup-skips, answers-by, on_err, outcome_on, answers-now}
 
--- the same question, later in the walk
-abbrev pub counted : Ctx → ℕ → Ctx
-counted c count = record { left = c.left; walking = c.walking; skips = c.skips; count = count }
+-- what a node with one part makes of its part's outcome
+pub part-answers : {p p₁ : Pass} {Q : Setup → World → Answer Outcome} {a : Result Code.Outcome Refusal} {o : Code.Outcome} (make : Outcome → Outcome) {r : Code.Outcome}
+    → Answers p Q IsOutcome a p₁ → a ≡ Ok o → SamePass p p₁ → IsOutcome (make (outcome_of o)) r
+    → Answers p (λ S W. and_then (Q S W) (λ x W₁. given (make x) W₁)) IsOutcome (Ok r) p₁
+part-answers make asked e same i = outcome_on asked e same (λ S x W₁. given (make x) W₁) (answers-now i)
 
-module _ {image names : List ℕ} {T T₁ : Tables} {c : Ctx} {s : AbsStack} {a : Ans} (h : Ready image names T c s) (left : ℕ)
-    (asked : Asked image T c (λ S W. visit S c.left c.walking left (state_of s) W) a T₁) where
-  pub around-refuses : (how : OnePart) → (a.refusal ≡ 0 → ⊥)
-      → Asked image T c (λ S W. and_then (visit S c.left c.walking left (state_of s) W) (λ o W₁. given (wrap_of how (state_of s) o) W₁)) a T₁
-  around-refuses how z = refused-on asked (λ S o W₁. given (wrap_of how (state_of s) o) W₁) z
+-- a sequence and a choice, as the definition asks
+module _ (d : Down) (s : AbsStack) (left right : ℕ) where
+  abbrev pub seq_on : Setup → Outcome → World → Answer Outcome
+  seq_on S l W = seq_rest S (visit S d.left) d.walking right (state_of s) l W l.ok
 
-  pub around-answers : (how : OnePart) → a.refusal ≡ 0 → {o : CodeO.Outcome} {r : Ans} → IsOutcome (wrap_of how (state_of s) (outcome_of a.out)) o
-      → r ≡ record { refusal = 0; count = a.count; out = o }
-      → Asked image T c (λ S W. and_then (visit S c.left c.walking left (state_of s) W) (λ o W₁. given (wrap_of how (state_of s) o) W₁)) r T₁
-  around-answers how z i e = asked-on (λ S o W₁. given (wrap_of how (state_of s) o) W₁) asked z (answers e i)
+  abbrev pub the-seq : Setup → World → Answer Outcome
+  the-seq S W = and_then (visit S d.left d.walking left (state_of s) W) (seq_on S)
 
-  module _ (right : ℕ) where
-    -- a sequence
-    pub seq-refuses : (a.refusal ≡ 0 → ⊥)
-        → Asked image T c (λ S W. and_then (visit S c.left c.walking left (state_of s) W) (λ l W₁. seq_rest S (visit S c.left) c.walking right (state_of s) l W₁ l.ok)) a T₁
-    seq-refuses z = refused-on asked (λ S l W₁. seq_rest S (visit S c.left) c.walking right (state_of s) l W₁ l.ok) z
+  abbrev pub choice_on : Setup → Outcome → World → Answer Outcome
+  choice_on S l W = choice_rest S (visit S d.left) d.walking right (state_of s) l W (failed l.err (state_of s))
 
-    module _ (z : a.refusal ≡ 0) where
-      seq_on : {r : Ans} {T₂ : Tables}
-          → Asked image T₁ (counted c a.count) (λ S W. seq_rest S (visit S c.left) c.walking right (state_of s) (outcome_of a.out) W (maybe_of a.out.ok)) r T₂
-          → Asked image T c (λ S W. and_then (visit S c.left c.walking left (state_of s) W) (λ l W₁. seq_rest S (visit S c.left) c.walking right (state_of s) l W₁ l.ok)) r T₂
-      seq_on g = asked-on (λ S l W₁. seq_rest S (visit S c.left) c.walking right (state_of s) l W₁ l.ok) asked z g
+  abbrev pub the-choice : Setup → World → Answer Outcome
+  the-choice S W = and_then (visit S d.left d.walking left (state_of s) W) (choice_on S)
 
+  module _ {p p₁ : Pass} {a : Result Code.Outcome Refusal} (h : Ready p) (asked : Answers p (λ S W. visit S d.left d.walking left (state_of s) W) IsOutcome a p₁) where
+    pub seq-refuses : {k : Refusal} → a ≡ Err k → Answers p the-seq IsOutcome (Err k) p₁
+    seq-refuses e = on_err asked e seq_on
+
+    module _ {l : Code.Outcome} (e : a ≡ Ok l) (same : SamePass p p₁) where
       -- the left side cannot succeed
-      pub seq-ends : a.out.ok ≡ M.Nothing → {n o : CodeO.Outcome} {r : Ans} → IsOutcome never n
-          → IsOutcome (of_seq c.skips (state_of s) (outcome_of a.out) (outcome_of n)) o → r ≡ record { refusal = 0; count = a.count; out = o }
-          → Asked image T c (λ S W. and_then (visit S c.left c.walking left (state_of s) W) (λ l W₁. seq_rest S (visit S c.left) c.walking right (state_of s) l W₁ l.ok)) r T₁
-      seq-ends q n i e =
-          seq_on
-          (answering_by (answers e i)
-          (λ L W k.
-          rw (q, setup-skips image L, ← h.skips)
-          (ap (λ (x : Outcome). given (of_seq c.skips (state_of s) (outcome_of a.out) x) W) (sym n.outcome))))
+      pub seq-ends : l.ok ≡ None → {n o : Code.Outcome} → IsOutcome never n → IsOutcome (of_seq p₁.skips (state_of s) (outcome_of l) (outcome_of n)) o
+          → Answers p the-seq IsOutcome (Ok o) p₁
+      seq-ends q n i =
+          outcome_on asked e same seq_on
+          (answers-by (answers-now i)
+          (λ L W.
+          rw (q, setup-skips p₁.names.image.bytes.now L, same.image, ← h.skips, same.skips)
+          (ap (λ (x : Outcome). given (of_seq p.skips (state_of s) (outcome_of l) x) W) (sym n.outcome))))
 
-      module _ {mid : AbsStack} (q : a.out.ok ≡ M.State mid) {b : Ans} {T₂ : Tables}
-          (then : Asked image T₁ (counted c a.count) (λ S W. visit S c.left c.walking right (state_of mid) W) b T₂) where
-        seq-both : {r : Ans}
-            → Asked image T₁ (counted c a.count) (λ S W. and_then (visit S c.left c.walking right (state_of mid) W) (λ x W₁. given (of_seq S.nodes.skips (state_of s) (outcome_of a.out) x) W₁)) r T₂
-            → Asked image T c (λ S W. and_then (visit S c.left c.walking left (state_of s) W) (λ l W₁. seq_rest S (visit S c.left) c.walking right (state_of s) l W₁ l.ok)) r T₂
-        seq-both g = seq_on (answering_by g (λ L W k. rw q))
+      module _ {mid : AbsStack} (q : l.ok ≡ Some mid) {b : Result Code.Outcome Refusal} {p₂ : Pass}
+          (then : Answers p₁ (λ S W. visit S d.left d.walking right (state_of mid) W) IsOutcome b p₂) where
+        abbrev both : Setup → Outcome → World → Answer Outcome
+        both S x W = given (of_seq S.nodes.skips (state_of s) (outcome_of l) x) W
 
-        pub seq-refuses-right : (b.refusal ≡ 0 → ⊥)
-            → Asked image T c (λ S W. and_then (visit S c.left c.walking left (state_of s) W) (λ l W₁. seq_rest S (visit S c.left) c.walking right (state_of s) l W₁ l.ok)) b T₂
-        seq-refuses-right y = seq-both (refused-on then (λ S x W₁. given (of_seq S.nodes.skips (state_of s) (outcome_of a.out) x) W₁) y)
+        pub seq-refuses-right : {k : Refusal} → b ≡ Err k → Answers p the-seq IsOutcome (Err k) p₂
+        seq-refuses-right y = outcome_on asked e same seq_on (answers-by (on_err then y both) (λ L W. rw q))
 
-        pub seq-answers : b.refusal ≡ 0 → {o : CodeO.Outcome} {r : Ans} → IsOutcome (of_seq c.skips (state_of s) (outcome_of a.out) (outcome_of b.out)) o
-            → r ≡ record { refusal = 0; count = b.count; out = o }
-            → Asked image T c (λ S W. and_then (visit S c.left c.walking left (state_of s) W) (λ l W₁. seq_rest S (visit S c.left) c.walking right (state_of s) l W₁ l.ok)) r T₂
-        seq-answers y i e =
-            seq-both
-            (asked-on (λ S x W₁. given (of_seq S.nodes.skips (state_of s) (outcome_of a.out) x) W₁) then y
-            (answering_by (answers e i) (λ L W k. rw (setup-skips image L, ← h.skips))))
+        pub seq-answers : {r o : Code.Outcome} → b ≡ Ok r → SamePass p₁ p₂ → IsOutcome (of_seq p₂.skips (state_of s) (outcome_of l) (outcome_of r)) o
+            → Answers p the-seq IsOutcome (Ok o) p₂
+        seq-answers y same₂ i =
+            outcome_on asked e same seq_on
+            (answers-by
+            (outcome_on then y same₂ both (answers-by (answers-now i) (λ L W. rw (setup-skips p₂.names.image.bytes.now L, same₂.image, same.image, ← h.skips, same₂.skips, same.skips))))
+            (λ L W. rw q))
 
-    -- a choice
-    pub choice-refuses : (a.refusal ≡ 0 → ⊥)
-        → Asked image T c (λ S W. and_then (visit S c.left c.walking left (state_of s) W) (λ l W₁. choice_rest S (visit S c.left) c.walking right (state_of s) l W₁ (failed l.err (state_of s)))) a T₁
-    choice-refuses z = refused-on asked (λ S l W₁. choice_rest S (visit S c.left) c.walking right (state_of s) l W₁ (failed l.err (state_of s))) z
+    pub choice-refuses : {k : Refusal} → a ≡ Err k → Answers p the-choice IsOutcome (Err k) p₁
+    choice-refuses e = on_err asked e choice_on
 
-    module _ (z : a.refusal ≡ 0) {f : Code.Maybe} (fails : IsMaybe (failed (maybe_of a.out.err) (state_of s)) f) where
-      choice-on : {m : Maybe} {r : Ans} {T₂ : Tables} → maybe_of f ≡ m
-          → Asked image T₁ (counted c a.count) (λ S W. choice_rest S (visit S c.left) c.walking right (state_of s) (outcome_of a.out) W m) r T₂
-          → Asked image T c (λ S W. and_then (visit S c.left c.walking left (state_of s) W) (λ l W₁. choice_rest S (visit S c.left) c.walking right (state_of s) l W₁ (failed l.err (state_of s)))) r T₂
-      choice-on {m} {r} {T₂} e g =
-          asked-on (λ S l W₁. choice_rest S (visit S c.left) c.walking right (state_of s) l W₁ (failed l.err (state_of s))) asked z
-          (answering_by g
-          (λ L W k.
-          ap (λ (x : Maybe). choice_rest (setup_for image L) (visit (setup_for image L) c.left) c.walking right (state_of s) (outcome_of a.out) W x)
-          (sym fails.maybe ∙ e)))
+    module _ {l : Code.Outcome} (e : a ≡ Ok l) (same : SamePass p p₁) {f : Option AbsStack} (fails : IsMaybe (failed (maybe_of l.err) (state_of s)) f) where
+      choice-by : {m : Maybe} {r : Result Code.Outcome Refusal} {p₂ : Pass} → maybe_of f ≡ m
+          → Answers p₁ (λ S W. choice_rest S (visit S d.left) d.walking right (state_of s) (outcome_of l) W m) IsOutcome r p₂ → Answers p the-choice IsOutcome r p₂
+      choice-by m g =
+          outcome_on asked e same choice_on
+          (answers-by g
+          (λ L W.
+          ap (λ (x : Maybe). choice_rest (setup_for p₁.names.image.bytes.now L) (visit (setup_for p₁.names.image.bytes.now L) d.left) d.walking right (state_of s) (outcome_of l) W x)
+          (sym fails.maybe ∙ m)))
 
       -- the left side cannot fail
-      pub choice-ends : f ≡ M.Nothing → {n o : CodeO.Outcome} {r : Ans} → IsOutcome never n
-          → IsOutcome (of_choice (state_of s) (outcome_of a.out) (outcome_of n)) o → r ≡ record { refusal = 0; count = a.count; out = o }
-          → Asked image T c (λ S W. and_then (visit S c.left c.walking left (state_of s) W) (λ l W₁. choice_rest S (visit S c.left) c.walking right (state_of s) l W₁ (failed l.err (state_of s)))) r T₁
-      choice-ends q n i e =
-          choice-on (ap maybe_of q)
-          (answering_by (answers e i) (λ L W k. ap (λ (x : Outcome). given (of_choice (state_of s) (outcome_of a.out) x) W) (sym n.outcome)))
+      pub choice-ends : f ≡ None → {n o : Code.Outcome} → IsOutcome never n → IsOutcome (of_choice (state_of s) (outcome_of l) (outcome_of n)) o
+          → Answers p the-choice IsOutcome (Ok o) p₁
+      choice-ends q n i =
+          choice-by (ap maybe_of q)
+          (answers-by (answers-now i) (λ L W. ap (λ (x : Outcome). given (of_choice (state_of s) (outcome_of l) x) W) (sym n.outcome)))
 
-      module _ {from : AbsStack} (q : f ≡ M.State from) {b : Ans} {T₂ : Tables}
-          (then : Asked image T₁ (counted c a.count) (λ S W. visit S c.left c.walking right (state_of from) W) b T₂) where
-        pub choice-refuses-right : (b.refusal ≡ 0 → ⊥)
-            → Asked image T c (λ S W. and_then (visit S c.left c.walking left (state_of s) W) (λ l W₁. choice_rest S (visit S c.left) c.walking right (state_of s) l W₁ (failed l.err (state_of s)))) b T₂
-        choice-refuses-right y = choice-on (ap maybe_of q) (refused-on then (λ S x W₁. given (of_choice (state_of s) (outcome_of a.out) x) W₁) y)
+      module _ {from : AbsStack} (q : f ≡ Some from) {b : Result Code.Outcome Refusal} {p₂ : Pass}
+          (then : Answers p₁ (λ S W. visit S d.left d.walking right (state_of from) W) IsOutcome b p₂) where
+        pub choice-refuses-right : {k : Refusal} → b ≡ Err k → Answers p the-choice IsOutcome (Err k) p₂
+        choice-refuses-right y = choice-by (ap maybe_of q) (on_err then y (λ S x W₁. given (of_choice (state_of s) (outcome_of l) x) W₁))
 
-        pub choice-answers : b.refusal ≡ 0 → {o : CodeO.Outcome} {r : Ans} → IsOutcome (of_choice (state_of s) (outcome_of a.out) (outcome_of b.out)) o
-            → r ≡ record { refusal = 0; count = b.count; out = o }
-            → Asked image T c (λ S W. and_then (visit S c.left c.walking left (state_of s) W) (λ l W₁. choice_rest S (visit S c.left) c.walking right (state_of s) l W₁ (failed l.err (state_of s)))) r T₂
-        choice-answers y i e =
-            choice-on (ap maybe_of q) (asked-on (λ S x W₁. given (of_choice (state_of s) (outcome_of a.out) x) W₁) then y (answers e i))
+        pub choice-answers : {r o : Code.Outcome} → b ≡ Ok r → SamePass p₁ p₂ → IsOutcome (of_choice (state_of s) (outcome_of l) (outcome_of r)) o
+            → Answers p the-choice IsOutcome (Ok o) p₂
+        choice-answers y same₂ i = choice-by (ap maybe_of q) (outcome_on then y same₂ (λ S x W₁. given (of_choice (state_of s) (outcome_of l) x) W₁) (answers-now i))

@@ -1,147 +1,92 @@
--- A repetition, from its runs of copies: `repeat` and `repeat_bounded`. Assumes nothing.
-use mathlib.Core.Path.{◌≡◌, refl, ap}
+-- A repetition, from its runs of copies. Assumes nothing.
+use Rattle.std.specs.Prelude.{None, Option, Result, Ok, Err}
+use mathlib.Core.Path.{◌≡◌, refl}
 use mathlib.Core.Bool.{Bool, true, false, ◌||◌, not, cond}
-use mathlib.Core.List.{List, []}
+use mathlib.Core.List.{[]}
 use mathlib.Core.Option.{none, some}
 use Prim.Native.Nat.{ℕ, ◌+◌}
 use lib.Dec.{ltb}
 use Rattle.stack.specs.declared.AbsStack.{AbsStack}
 use Rattle.stack.specs.Promise.{state_of}
+use Rattle.image.specs.declared.refusal.Refusal.{Refusal}
 use Rattle.machine.specs.Outcome as O
 use Rattle.machine.specs.Outcome.{Outcome}
 use Rattle.asking.specs.World.{Setup, World, Answer, given, and_then}
 use Rattle.asking.specs.Runs as R
 use Rattle.asking.specs.Runs.{steps, greedy}
 use Rattle.asking.specs.Ask.{visit, starts, searched, restored, unbounded_rest, bounded_rest, repeat_unbounded, repeat_bounded}
-use Rattle.outcomes.specs.declared.Maybe as Code
-use Rattle.outcomes.specs.declared.Maybe.TheVariants as M
-use Rattle.outcomes.specs.Promise.{maybe_of, FormedMaybe, IsMaybe, IsOutcome}
-use Rattle.standing.specs.Stands.{Tables}
-use Rattle.standing.specs.Answers.{setup_for, Answering}
-use Rattle.standing.proofs.Along.{refused-on, answered-on, answering_by}
+use Rattle.outcomes.specs.declared.Outcome as Code
+use Rattle.outcomes.specs.Promise.{IsMaybe, IsOutcome}
 use Rattle.turns.specs.declared.Ran.{Ran}
-use Rattle.turns.specs.declared.Placed.{Placed}
-use Rattle.analysis.specs.declared.Ctx.{Ctx}
-use Rattle.analysis.specs.declared.Ans.{Ans}
-use Rattle.analysis.specs.Promise.{Ready, RanSo}
-use Rattle.analysis.proofs.On.{setup-skips, ran_on, answers}
-use Rattle.analysis.proofs.Parts.{counted}
+use Rattle.turns.specs.Promise.{IsRan}
+use Rattle.analysis.specs.declared.Pass.{Pass}
+use Rattle.analysis.specs.declared.Down.{Down}
+use Rattle.analysis.specs.Methods.{SamePass, Ready, Done, Answers}
+use Rattle.analysis.proofs.On.{setup-skips, ran_of, answers-by, on_err, ready-on, ok-is, on_ok, ran_on, answers-now}
 
--- an outcome of two well-formed enums
-outcome-is : {x y : O.Maybe} {ok err : Code.Maybe} (empty : Bool) → IsMaybe x ok → IsMaybe y err
+-- an outcome of two well-formed options
+outcome-is : {x y : O.Maybe} {ok err : Option AbsStack} (empty : Bool) → IsMaybe x ok → IsMaybe y err
     → IsOutcome (record { ok = x; err = y; empty = empty }) (record { ok = ok; err = err; empty = empty })
 outcome-is empty a b =
     record { outcome = λ i. record { ok = a.maybe i; err = b.maybe i; empty = empty }; formed = record { ok = a.formed; err = b.formed } }
 
--- a refusal is handed on
-pub refuses-so : {image : List ℕ} {T T₁ : Tables} {count₀ k count : ℕ} {Q : Setup → World → Answer Outcome} {r : Ans} → (r.refusal ≡ k) × (r.count ≡ count)
-    → Answering image T count₀ Q (λ o. IsOutcome o r.out) k count T₁ → Answering image T count₀ Q (λ o. IsOutcome o r.out) r.refusal r.count T₁
-refuses-so e a = rw (e.0, e.1) a
+-- what follows the required copies, as the definition asks
+module _ (d : Down) (part : ℕ) (s : AbsStack) where
+  abbrev pub greedy_rest : Setup → R.Ran → World → Answer Outcome
+  greedy_rest S x W = unbounded_rest S (visit S d.left) d.walking part (state_of s) x.empty x.fails W x.end
 
-module _ {image names : List ℕ} {T : Tables} {c : Ctx} {s : AbsStack} (h : Ready image names T c s) (part required : ℕ) where
-  -- the required copies, as the code and as the definition begin them
-  abbrev required_copies : Bool → Setup → World → Answer R.Ran
-  required_copies empty S W = steps (visit S c.left) c.walking part true starts required [] (state_of s) empty false W
+  abbrev pub optional_rest : ℕ → Setup → R.Ran → World → Answer Outcome
+  optional_rest optional S x W = bounded_rest S (visit S d.left) d.walking part optional (state_of s) x.empty x.fails W x.end
 
-  -- after them a greedy run, or optional copies
-  abbrev greedy_rest : Setup → R.Ran → World → Answer Outcome
-  greedy_rest S x W = unbounded_rest S (visit S c.left) c.walking part (state_of s) x.empty x.fails W x.end
+  abbrev pub required_copies : ℕ → Bool → Setup → World → Answer R.Ran
+  required_copies required empty S W = steps (visit S d.left) d.walking part true starts required [] (state_of s) empty false W
 
-  abbrev optional_rest : ℕ → Setup → R.Ran → World → Answer Outcome
-  optional_rest optional S x W = bounded_rest S (visit S c.left) c.walking part optional (state_of s) x.empty x.fails W x.end
+-- a run, and what follows it
+module _ {p p₁ : Pass} (s : AbsStack) {Q : Setup → World → Answer R.Ran} {a : Result Ran Refusal} (asked : Answers p Q IsRan a p₁) {q : Ran} (e : a ≡ Ok q) (same : SamePass p p₁)
+    {err : Option AbsStack} (restores : IsMaybe (cond q.fails (some (state_of s)) none) err) (F : Setup → R.Ran → World → Answer Outcome) where
+  -- it left no state
+  pub run-none : ((S : Setup) (W : World) → F S (ran_of q) W ≡ given (record { ok = none; err = restored S q.fails (state_of s); empty = true }) W)
+      → Answers p (λ S W. and_then (Q S W) (F S)) IsOutcome (Ok (record { ok = None; err = err; empty = true })) p₁
+  run-none f =
+      ran_on asked e same F (answers-by (answers-now (outcome-is true (record { maybe = refl; formed = tt }) restores)) (λ L W. f _ W))
 
-  module _ {T₁ T₂ : Tables} {count : ℕ} (e : Bool) {q : Ran} (asked : RanSo image T₁ (counted c count) (required_copies e) q T₂) where
-    -- they are refused
-    pub copies-refuse : (q.refusal ≡ 0 → ⊥) → {I : Outcome → Type 0} → Answering image T₁ count (λ S W. and_then (required_copies e S W) (greedy_rest S)) I q.refusal q.count T₂
-    copies-refuse z = refused-on asked greedy_rest z
+  -- a second run follows it
+  module _ {Q' : Setup → World → Answer R.Ran}
+      (f : (S : Setup) (W : World) → F S (ran_of q) W ≡ and_then (Q' S W) (λ r W₁. given (record { ok = r.end; err = restored S q.fails (state_of s); empty = r.empty }) W₁))
+      {b : Result Ran Refusal} {p₂ : Pass} (then : Answers p₁ Q' IsRan b p₂) where
+    abbrev both : Setup → R.Ran → World → Answer Outcome
+    both S r W = given (record { ok = r.end; err = restored S q.fails (state_of s); empty = r.empty }) W
 
-    module _ {err : Code.Maybe} (z : q.refusal ≡ 0) (restores : IsMaybe (cond q.fails (some (state_of s)) none) err) where
-      -- then a greedy run
-      pub greedy-none : q.end ≡ M.Nothing → {r : Ans} → r ≡ record { refusal = 0; count = q.count; out = record { ok = q.end; err = err; empty = true } }
-          → Answering image T₁ count (λ S W. and_then (required_copies e S W) (greedy_rest S)) (λ o. IsOutcome o r.out) r.refusal r.count T₂
-      greedy-none n g =
-          ran_on greedy_rest asked z
-          (answering_by (answers g (outcome-is true (record { maybe = ap maybe_of n; formed = rw n tt }) restores))
-          (λ L W k. ap (λ (x : O.Maybe). unbounded_rest (setup_for image L) (visit (setup_for image L) c.left) c.walking part (state_of s) q.empty q.fails W x) (ap maybe_of n)))
+    pub run-refuses : {k : Refusal} → b ≡ Err k → Answers p (λ S W. and_then (Q S W) (F S)) IsOutcome (Err k) p₂
+    run-refuses y = ran_on asked e same F (answers-by (on_err then y both) (λ L W. f _ W))
 
-      module _ {mid : AbsStack} (n : q.end ≡ M.State mid) {g : Ran} {T₃ : Tables}
-          (then : RanSo image T₂ (counted c q.count) (λ S W. greedy (visit S c.left) c.walking part starts [] (state_of mid) true q.empty none W) g T₃) where
-        greedy-on : {I : Outcome → Type 0} {k count' : ℕ}
-            → Answering image T₂ q.count
-            (λ S W. and_then (greedy (visit S c.left) c.walking part starts [] (state_of mid) true q.empty none W)
-            (λ r W₁. given (record { ok = r.end; err = restored S q.fails (state_of s); empty = r.empty }) W₁)) I k count' T₃
-            → Answering image T₁ count (λ S W. and_then (required_copies e S W) (greedy_rest S)) I k count' T₃
-        greedy-on a =
-            ran_on greedy_rest asked z
-            (answering_by a
-            (λ L W k. ap (λ (x : O.Maybe). unbounded_rest (setup_for image L) (visit (setup_for image L) c.left) c.walking part (state_of s) q.empty q.fails W x) (ap maybe_of n)))
+    pub run-answers : Ready p₁ → SamePass p₁ p₂ → {g : Ran} → b ≡ Ok g
+        → Answers p (λ S W. and_then (Q S W) (F S)) IsOutcome (Ok (record { ok = g.end; err = err; empty = g.empty })) p₂
+    run-answers h₁ same₂ {g} y =
+        ran_on asked e same F
+        (answers-by
+        (ran_on then y same₂ both (answers-now (outcome-is g.empty (record { maybe = refl; formed = (ok-is then y h₁).1.end.formed }) restores)))
+        (λ L W. f _ W))
 
-        pub greedy-refuses : (g.refusal ≡ 0 → ⊥) → {I : Outcome → Type 0} → Answering image T₁ count (λ S W. and_then (required_copies e S W) (greedy_rest S)) I g.refusal g.count T₃
-        greedy-refuses y = greedy-on (refused-on then (λ S r W₁. given (record { ok = r.end; err = restored S q.fails (state_of s); empty = r.empty }) W₁) y)
-
-        pub greedy-answers : g.refusal ≡ 0 → FormedMaybe g.end → {r : Ans} → r ≡ record { refusal = 0; count = g.count; out = record { ok = g.end; err = err; empty = g.empty } }
-            → Answering image T₁ count (λ S W. and_then (required_copies e S W) (greedy_rest S)) (λ o. IsOutcome o r.out) r.refusal r.count T₃
-        greedy-answers y w i =
-            greedy-on
-            (ran_on (λ S r W₁. given (record { ok = r.end; err = restored S q.fails (state_of s); empty = r.empty }) W₁) then y
-            (answers i (outcome-is g.empty (record { maybe = refl; formed = w }) restores)))
-
-      -- or optional copies
-      module _ (optional : ℕ) where
-        pub optional-none : q.end ≡ M.Nothing → {r : Ans} → r ≡ record { refusal = 0; count = q.count; out = record { ok = q.end; err = err; empty = true } }
-            → Answering image T₁ count (λ S W. and_then (required_copies e S W) (optional_rest optional S)) (λ o. IsOutcome o r.out) r.refusal r.count T₂
-        optional-none n g =
-            ran_on (optional_rest optional) asked z
-            (answering_by (answers g (outcome-is true (record { maybe = ap maybe_of n; formed = rw n tt }) restores))
-            (λ L W k. ap (λ (x : O.Maybe). bounded_rest (setup_for image L) (visit (setup_for image L) c.left) c.walking part optional (state_of s) q.empty q.fails W x) (ap maybe_of n)))
-
-        module _ {mid : AbsStack} (n : q.end ≡ M.State mid) {g : Ran} {T₃ : Tables}
-            (then : RanSo image T₂ (counted c q.count) (λ S W. steps (visit S c.left) c.walking part false starts optional [] (state_of mid) q.empty false W) g T₃) where
-          optional-on : {I : Outcome → Type 0} {k count' : ℕ}
-              → Answering image T₂ q.count
-              (λ S W. and_then (steps (visit S c.left) c.walking part false starts optional [] (state_of mid) q.empty false W)
-              (λ r W₁. given (record { ok = r.end; err = restored S q.fails (state_of s); empty = r.empty }) W₁)) I k count' T₃
-              → Answering image T₁ count (λ S W. and_then (required_copies e S W) (optional_rest optional S)) I k count' T₃
-          optional-on a =
-              ran_on (optional_rest optional) asked z
-              (answering_by a
-              (λ L W k. ap (λ (x : O.Maybe). bounded_rest (setup_for image L) (visit (setup_for image L) c.left) c.walking part optional (state_of s) q.empty q.fails W x) (ap maybe_of n)))
-
-          pub optional-refuses : (g.refusal ≡ 0 → ⊥) → {I : Outcome → Type 0} → Answering image T₁ count (λ S W. and_then (required_copies e S W) (optional_rest optional S)) I g.refusal g.count T₃
-          optional-refuses y = optional-on (refused-on then (λ S r W₁. given (record { ok = r.end; err = restored S q.fails (state_of s); empty = r.empty }) W₁) y)
-
-          pub optional-answers : g.refusal ≡ 0 → FormedMaybe g.end → {r : Ans} → r ≡ record { refusal = 0; count = g.count; out = record { ok = g.end; err = err; empty = g.empty } }
-              → Answering image T₁ count (λ S W. and_then (required_copies e S W) (optional_rest optional S)) (λ o. IsOutcome o r.out) r.refusal r.count T₃
-          optional-answers y w i =
-              optional-on
-              (ran_on (λ S r W₁. given (record { ok = r.end; err = restored S q.fails (state_of s); empty = r.empty }) W₁) then y
-              (answers i (outcome-is g.empty (record { maybe = refl; formed = w }) restores)))
-
+module _ {p : Pass} (h : Ready p) (d : Down) (part required : ℕ) (s : AbsStack) where
   -- a repetition without a most
-  module _ (n : ℕ) {f : Placed} {T₁ : Tables}
-      (sought : Answering image T c.count (λ S W. searched S (visit S c.left) c.walking n part (state_of s) W) (λ u. Unit {0}) f.refusal f.count T₁) where
+  module _ (n : ℕ) {r : Result (Unit {0}) Refusal} {p₁ : Pass} (sought : Answers p (λ S W. searched S (visit S d.left) d.walking n part (state_of s) W) Done r p₁) where
     abbrev copies_rest : Setup → Unit {0} → World → Answer Outcome
-    copies_rest S u W = and_then (steps (visit S c.left) c.walking part true starts required [] (state_of s) (not S.nodes.skips) false W) (greedy_rest S)
+    copies_rest S u W = and_then (required_copies d part s required (not S.nodes.skips) S W) (greedy_rest d part s S)
 
-    pub repeat-refuses : (f.refusal ≡ 0 → ⊥) → {I : Outcome → Type 0}
-        → Answering image T c.count (λ S W. repeat_unbounded S (visit S c.left) c.walking n part required (state_of s) W) I f.refusal f.count T₁
+    pub repeat-refuses : {k : Refusal} → r ≡ Err k → Answers p (λ S W. repeat_unbounded S (visit S d.left) d.walking n part required (state_of s) W) IsOutcome (Err k) p₁
     unfolding repeat_unbounded
-    repeat-refuses z = refused-on sought copies_rest z
+    repeat-refuses e = on_err sought e copies_rest
 
-    pub repeat-on : f.refusal ≡ 0 → {I : Outcome → Type 0} {k count : ℕ} {T₂ : Tables}
-        → Answering image T₁ f.count (λ S W. and_then (required_copies (not c.skips) S W) (greedy_rest S)) I k count T₂
-        → Answering image T c.count (λ S W. repeat_unbounded S (visit S c.left) c.walking n part required (state_of s) W) I k count T₂
+    pub repeat-on : {u : Unit {0}} → r ≡ Ok u → SamePass p p₁ → {x : Result Code.Outcome Refusal} {p₂ : Pass}
+        → Answers p₁ (λ S W. and_then (required_copies d part s required (not p₁.skips) S W) (greedy_rest d part s S)) IsOutcome x p₂
+        → Answers p (λ S W. repeat_unbounded S (visit S d.left) d.walking n part required (state_of s) W) IsOutcome x p₂
     unfolding repeat_unbounded
-    repeat-on z a = answered-on sought copies_rest z (λ u _. answering_by a (λ L W k. rw (setup-skips image L, ← h.skips)))
+    repeat-on e same a = on_ok sought e same copies_rest (λ u _. answers-by a (λ L W. rw (setup-skips p₁.names.image.bytes.now L, ← (ready-on sought e same h).skips)))
 
   -- a repetition with a most
-  module _ (optional : ℕ) where
-    pub bounded-on : {e : Bool} → e ≡ not c.skips || ltb (required + optional) 2 → {I : Outcome → Type 0} {k count : ℕ} {T₂ : Tables}
-        → Answering image T c.count (λ S W. and_then (required_copies e S W) (optional_rest optional S)) I k count T₂
-        → Answering image T c.count (λ S W. repeat_bounded S (visit S c.left) c.walking part required optional (state_of s) W) I k count T₂
-    unfolding repeat_bounded
-    bounded-on q a = answering_by a (λ L W k. rw (setup-skips image L, ← h.skips, ← q))
-
-    pub bounded-refuses : (e : Bool) {q : Ran} {T₂ : Tables} → RanSo image T c (required_copies e) q T₂ → (q.refusal ≡ 0 → ⊥) → {I : Outcome → Type 0}
-        → Answering image T c.count (λ S W. and_then (required_copies e S W) (optional_rest optional S)) I q.refusal q.count T₂
-    bounded-refuses e a z = refused-on a (optional_rest optional) z
+  pub bounded-on : (optional : ℕ) {e : Bool} → e ≡ not p.skips || ltb (required + optional) 2 → {x : Result Code.Outcome Refusal} {p₁ : Pass}
+      → Answers p (λ S W. and_then (required_copies d part s required e S W) (optional_rest d part s optional S)) IsOutcome x p₁
+      → Answers p (λ S W. repeat_bounded S (visit S d.left) d.walking part required optional (state_of s) W) IsOutcome x p₁
+  unfolding repeat_bounded
+  bounded-on optional q a = answers-by a (λ L W. rw (setup-skips p.names.image.bytes.now L, ← h.skips, ← q))

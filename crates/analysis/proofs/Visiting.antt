@@ -1,4 +1,5 @@
 -- `visit` and `outcome`, return by return, from what the code has in hand. Assumes nothing.
+use Rattle.std.specs.Prelude.{Result, Ok, Err}
 use mathlib.Core.Path.{◌≡◌, refl, sym, ap, subst, ◌∙◌}
 use mathlib.Core.Bool.{Bool, true, false, not}
 use mathlib.Core.List.{List}
@@ -9,6 +10,10 @@ use lib.ListN.{length}
 use Rattle.stack.specs.declared.AbsStack.{AbsStack}
 use Rattle.stack.specs.State.{Within, max_len}
 use Rattle.stack.specs.Promise.{state_of, WellFormed}
+use Rattle.image.specs.declared.refusal.Refusal.{Refusal}
+use Rattle.image.specs.declared.refusal.Refusal.TheVariants.{OutcomesFull, WalkedFull, TooDeep}
+use Rattle.image.specs.RefusalNumber.{number_of}
+use Rattle.image.proofs.GrammarLaws.{accepted}
 use Rattle.machine.specs.Outcome.{unknown}
 use Rattle.asking.specs.World.{given, and_then, closes}
 use Rattle.asking.specs.Ask.{step, visit}
@@ -18,17 +23,17 @@ use Rattle.tables.specs.Places.{key_at, places, value_at, set_value, set_place}
 use Rattle.tables.proofs.Places.{length-place}
 use Rattle.tables.specs.Probing.{probe, Tells, Probed}
 use Rattle.outcomes.specs.declared.Outcome as Code
-use Rattle.outcomes.specs.Promise.{outcome_of, Formed, IsOutcome}
+use Rattle.outcomes.specs.Promise.{outcome_of, IsOutcome}
 use Rattle.outcomes.specs.Word.{outcome_number, outcome_at, NumberOfOutcome}
 use Rattle.outcomes.proofs.Within.{state-within, outcome-within}
 use Rattle.standing.specs.Stands.{key_of, Tables}
 use Rattle.standing.specs.Answers.{tables, Answering, Along}
-use Rattle.standing.proofs.Along.{along-standing, along-answer, refused-on}
+use Rattle.standing.proofs.Along.{along-standing, along-answer}
 use Rattle.standing.proofs.Asks.{visit-refuses, visit-comes-to-outcome, visit-comes-to-step, visit-refuses-9, outcome-is-open, outcome-is-remembered, outcome-refuses-8, outcome-opens, remembered-number, opened-place, closing}
-use Rattle.analysis.specs.declared.Ctx.{Ctx}
-use Rattle.analysis.specs.declared.Ans.{Ans}
-use Rattle.analysis.specs.Promise.{Ready, Node, Asked}
-use Rattle.analysis.proofs.On.{asked-formed}
+use Rattle.analysis.specs.declared.Pass.{Pass}
+use Rattle.analysis.specs.declared.Down.{Down}
+use Rattle.analysis.specs.Methods.{tables_of, Says, Ready, Node, Answers}
+use Rattle.analysis.proofs.On.{over, ready-by, on_err, said, outcome-formed}
 
 -- the place that a search answers with
 pub free-place : {j size : ℕ} {t : List ℕ} {k : ℕ} {p : Probe} {i : ℕ} → Probed j size t k p → p ≡ Free i → i < places size t
@@ -37,119 +42,122 @@ free-place {j} {size} {t} {k} h e = (subst (Tells (key_at j size t) (places size
 pub found-place : {j size : ℕ} {t : List ℕ} {k : ℕ} {p : Probe} {i : ℕ} → Probed j size t k p → p ≡ Found i → i < places size t
 found-place {j} {size} {t} {k} h e = (subst (Tells (key_at j size t) (places size t) k) e h.tells).0
 
-module _ {image names memo walked table marks : List ℕ} {c : Ctx} {s : AbsStack} (h : Ready image names (tables memo walked table marks) c s) (n : ℕ) (node : Node image n) where
+-- the same pass with other bytes in its tables
+pub record With (p : Pass) (T : Tables) (q : Pass) : Type 0 where
+  pub image : q.names.image.bytes.now ≡ p.names.image.bytes.now
+  pub skips : q.skips ≡ p.skips
+  pub count : q.count ≡ p.count
+  pub bytes : tables_of q ≡ T
+
+module _ {p : Pass} {s : AbsStack} (h : Ready p) (formed : WellFormed max_len s) (n : ℕ) (node : Node p n) where
   few : n < 2048
-  few = omega (arith, h.read.accepted.formed.few-nodes, node)
+  few = omega (arith, (accepted _ p.names.image.accepted).formed.few-nodes, node)
 
   within : Within max_len (state_of s)
-  within = state-within s h.state
+  within = state-within s formed
 
   -- a node and a state have a key
   pub keyed : (n < 2048) × WellFormed max_len s
-  keyed = (few, h.state)
+  keyed = (few, formed)
 
   -- no node may open any more
-  pub none_left : (walking : Bool) → c.left ≡ 0 → {r : Ans} → (r.refusal ≡ 12) × (r.count ≡ c.count)
-      → Asked image (tables memo walked table marks) c (λ S W. visit S c.left walking n (state_of s) W) r (tables memo walked table marks)
-  none_left walking z e = rw e.0 (visit-refuses c.left walking n (state_of s) z)
+  pub none_left : (left : ℕ) (walking : Bool) → left ≡ 0 → Answers p (λ S W. visit S left walking n (state_of s) W) IsOutcome (Err TooDeep) p
+  none_left left walking z = record { so = visit-refuses left walking n (state_of s) z }
 
-  module _ (z : c.left ≡ 0 → ⊥) where
-    some_left : c.left ≡ suc (c.left - 1)
+  module _ (left : ℕ) (z : left ≡ 0 → ⊥) where
+    some_left : left ≡ suc (left - 1)
     some_left = omega (arith, z)
 
     -- the walked table
-    module _ {k : ℕ} (key : k ≡ key_of n (state_of s)) {p : Probe} (probed : Probed 4 4 walked k p) (on : c.walking ≡ true) where
-      walked_at : {x : Probe} → p ≡ x → x ≡ probe 4 4 walked (key_of n (state_of s))
-      walked_at e = sym e ∙ probed.answer ∙ ap (probe 4 4 walked) key
+    module _ {k : ℕ} (key : k ≡ key_of n (state_of s)) {found : Probe} (probed : Probed 4 4 p.walked.now k found) {walking : Bool} (on : walking ≡ true) where
+      walked_at : {x : Probe} → found ≡ x → x ≡ probe 4 4 p.walked.now (key_of n (state_of s))
+      walked_at e = sym e ∙ probed.answer ∙ ap (probe 4 4 p.walked.now) key
 
-      pub visit-known : {i : ℕ} → p ≡ Found i → {r : Ans} {T' : Tables}
-          → Asked image (tables memo walked table marks) c (λ S W. visit S c.left false n (state_of s) W) r T'
-          → Asked image (tables memo walked table marks) c (λ S W. visit S c.left c.walking n (state_of s) W) r T'
-      visit-known {i} e a =
-          rw (on, some_left) (along-answer (visit-comes-to-outcome (c.left - 1) n (state_of s) within i (walked_at e)) (rw (← some_left) a))
+      pub visit-known : {i : ℕ} → found ≡ Found i → {r : Result Code.Outcome Refusal} {q : Pass}
+          → Answers p (λ S W. visit S left false n (state_of s) W) IsOutcome r q → Answers p (λ S W. visit S left walking n (state_of s) W) IsOutcome r q
+      visit-known {i} e {r} {q} a =
+          rw (on, some_left)
+          (record {
+            so = along-answer (visit-comes-to-outcome (left - 1) n (state_of s) within i (walked_at e))
+                (subst (λ (x : ℕ). Answering p.names.image.bytes.now (tables_of p) p.count (λ S W. visit S x false n (state_of s) W) (Says IsOutcome r) (number_of r) q.count (tables_of q)) some_left a.so);
+          })
 
-      pub visit-nine : p ≡ Full → {r : Ans} → (r.refusal ≡ 9) × (r.count ≡ c.count)
-          → Asked image (tables memo walked table marks) c (λ S W. visit S c.left c.walking n (state_of s) W) r (tables memo walked table marks)
-      visit-nine e q = rw (on, some_left, q.0) (visit-refuses-9 (c.left - 1) n (state_of s) within (walked_at e))
+      pub visit-nine : found ≡ Full → Answers p (λ S W. visit S left walking n (state_of s) W) IsOutcome (Err WalkedFull) p
+      visit-nine e = rw (on, some_left) (record { so = visit-refuses-9 (left - 1) n (state_of s) within (walked_at e) })
 
       -- a place is taken
-      module _ {i : ℕ} (e : p ≡ Free i) {walked' : List ℕ} (q : walked' ≡ set_place 4 4 walked i k 0) where
-        stepped : Along image (tables memo walked table marks) c.count (λ S W. visit S (suc (c.left - 1)) true n (state_of s) W)
-            (tables memo walked' table marks) c.count (λ S W. step S (visit S (c.left - 1)) true n (state_of s) W)
+      module _ {i : ℕ} (e : found ≡ Free i) {walked : List ℕ} (entered : walked ≡ set_place 4 4 p.walked.now i k 0) {q : Pass}
+          (w : With p (tables p.memo.now walked p.table.now p.marks.now) q) where
+        stepped : Along p.names.image.bytes.now (tables_of p) p.count (λ S W. visit S (suc (left - 1)) true n (state_of s) W)
+            (tables_of q) q.count (λ S W. step S (visit S (left - 1)) true n (state_of s) W)
         stepped =
-            subst
-            (λ (x : List ℕ).
-            Along image (tables memo walked table marks) c.count (λ S W. visit S (suc (c.left - 1)) true n (state_of s) W)
-            (tables memo x table marks) c.count (λ S W. step S (visit S (c.left - 1)) true n (state_of s) W))
-            (sym (q ∙ ap (λ (x : ℕ). set_place 4 4 walked i x 0) key)) (visit-comes-to-step (c.left - 1) n (state_of s) within few i (walked_at e))
+            rw (w.bytes, w.count, entered, key)
+            (visit-comes-to-step (left - 1) n (state_of s) within few i (walked_at e))
 
-        pub visit-ready : Ready image names (tables memo walked' table marks) (record { left = c.left - 1; walking = true; skips = c.skips; count = c.count }) s
-        visit-ready = record { read = h.read; skips = h.skips; standing = along-standing stepped h.standing; state = h.state }
+        pub visit-ready : Ready q
+        visit-ready = ready-by h w.image w.skips (along-standing stepped h.standing)
 
-        pub visit-new : {r : Ans} {T' : Tables}
-            → Answering image (tables memo walked' table marks) c.count (λ S W. step S (visit S (c.left - 1)) true n (state_of s) W) (λ o. IsOutcome o r.out) r.refusal r.count T'
-            → Asked image (tables memo walked table marks) c (λ S W. visit S c.left c.walking n (state_of s) W) r T'
-        visit-new a = rw (on, some_left) (along-answer stepped a)
+        pub visit-new : {r : Result Code.Outcome Refusal} {q₁ : Pass}
+            → Answers q (λ S W. step S (visit S (left - 1)) true n (state_of s) W) IsOutcome r q₁ → Answers p (λ S W. visit S left walking n (state_of s) W) IsOutcome r q₁
+        visit-new {r} {q₁} a =
+            rw (on, some_left)
+            (record {
+              so = along-answer stepped (over a w.image);
+            })
 
     -- the outcome table
-    module _ {k : ℕ} (key : k ≡ key_of n (state_of s)) {p : Probe} (probed : Probed 4 8 memo k p) where
-      memo-at : {x : Probe} → p ≡ x → x ≡ probe 4 8 memo (key_of n (state_of s))
-      memo-at e = sym e ∙ probed.answer ∙ ap (probe 4 8 memo) key
+    module _ {k : ℕ} (key : k ≡ key_of n (state_of s)) {found : Probe} (probed : Probed 4 8 p.memo.now k found) where
+      memo-at : {x : Probe} → found ≡ x → x ≡ probe 4 8 p.memo.now (key_of n (state_of s))
+      memo-at e = sym e ∙ probed.answer ∙ ap (probe 4 8 p.memo.now) key
 
-      pub outcome-eight : p ≡ Full → {r : Ans} → (r.refusal ≡ 8) × (r.count ≡ c.count)
-          → Asked image (tables memo walked table marks) c (λ S W. visit S c.left false n (state_of s) W) r (tables memo walked table marks)
-      outcome-eight e q = rw (some_left, q.0) (outcome-refuses-8 (c.left - 1) n (state_of s) within (memo-at e))
+      pub outcome-eight : found ≡ Full → Answers p (λ S W. visit S left false n (state_of s) W) IsOutcome (Err OutcomesFull) p
+      outcome-eight e = rw some_left (record { so = outcome-refuses-8 (left - 1) n (state_of s) within (memo-at e) })
 
-      module _ {i v : ℕ} (e : p ≡ Found i) (is : v ≡ value_at 4 8 memo i) where
-        pub outcome-opened : v ≡ 0 → {o : Code.Outcome} {r : Ans} → IsOutcome unknown o → r ≡ record { refusal = 0; count = c.count; out = o }
-            → Asked image (tables memo walked table marks) c (λ S W. visit S c.left false n (state_of s) W) r (tables memo walked table marks)
-        outcome-opened y u q = rw (some_left, q) (outcome-is-open (c.left - 1) n (state_of s) within i (memo-at e) (sym is ∙ y) u)
+      module _ {i v : ℕ} (e : found ≡ Found i) (is : v ≡ value_at 4 8 p.memo.now i) where
+        pub outcome-opened : v ≡ 0 → {o : Code.Outcome} → IsOutcome unknown o → Answers p (λ S W. visit S left false n (state_of s) W) IsOutcome (Ok o) p
+        outcome-opened y u = rw some_left (record { so = outcome-is-open (left - 1) n (state_of s) within i (memo-at e) (sym is ∙ y) u })
 
         module _ (y : v ≡ 0 → ⊥) where
           pub outcome-number : NumberOfOutcome max_len v
           outcome-number = rw is (remembered-number n (state_of s) within h.standing i (memo-at e) (λ x. y (is ∙ x)))
 
-          pub outcome-remembered : {o : Code.Outcome} {r : Ans} → IsOutcome (outcome_at v) o → r ≡ record { refusal = 0; count = c.count; out = o }
-              → Asked image (tables memo walked table marks) c (λ S W. visit S c.left false n (state_of s) W) r (tables memo walked table marks)
-          outcome-remembered {o} u q =
-              rw (some_left, q)
-              (outcome-is-remembered (c.left - 1) n (state_of s) within i (memo-at e) (λ x. y (is ∙ x)) (subst (λ (x : ℕ). IsOutcome (outcome_at x) o) is u))
+          pub outcome-remembered : {o : Code.Outcome} → IsOutcome (outcome_at v) o → Answers p (λ S W. visit S left false n (state_of s) W) IsOutcome (Ok o) p
+          outcome-remembered {o} u =
+              rw some_left
+              (record { so = outcome-is-remembered (left - 1) n (state_of s) within i (memo-at e) (λ x. y (is ∙ x)) (subst (λ (x : ℕ). IsOutcome (outcome_at x) o) is u) })
 
       -- a new pair opens, is stepped, and its answer is stored
-      module _ {i : ℕ} (e : p ≡ Free i) {memo' : List ℕ} (q : memo' ≡ set_place 4 8 memo i k 0) where
-        placed : memo' ≡ set_place 4 8 memo i (key_of n (state_of s)) 0
-        placed = q ∙ ap (λ (x : ℕ). set_place 4 8 memo i x 0) key
+      module _ {i : ℕ} (e : found ≡ Free i) {memo : List ℕ} (entered : memo ≡ set_place 4 8 p.memo.now i k 0) {q : Pass}
+          (w : With p (tables memo p.walked.now p.table.now p.marks.now) q) where
+        placed : memo ≡ set_place 4 8 p.memo.now i (key_of n (state_of s)) 0
+        placed = entered ∙ ap (λ (x : ℕ). set_place 4 8 p.memo.now i x 0) key
 
-        opened : Along image (tables memo walked table marks) c.count (λ S W. visit S (suc (c.left - 1)) false n (state_of s) W)
-            (tables memo' walked table marks) c.count
-            (λ S W. and_then (step S (visit S (c.left - 1)) false n (state_of s) W) (λ o W₁. given o (closes n (state_of s) o W₁)))
-        opened =
-            subst
-            (λ (x : List ℕ).
-            Along image (tables memo walked table marks) c.count (λ S W. visit S (suc (c.left - 1)) false n (state_of s) W)
-            (tables x walked table marks) c.count
-            (λ S W. and_then (step S (visit S (c.left - 1)) false n (state_of s) W) (λ o W₁. given o (closes n (state_of s) o W₁))))
-            (sym placed) (outcome-opens (c.left - 1) n (state_of s) within few i (memo-at e))
+        opened : Along p.names.image.bytes.now (tables_of p) p.count (λ S W. visit S (suc (left - 1)) false n (state_of s) W)
+            (tables_of q) q.count (λ S W. and_then (step S (visit S (left - 1)) false n (state_of s) W) (λ o W₁. given o (closes n (state_of s) o W₁)))
+        opened = rw (w.bytes, w.count, placed) (outcome-opens (left - 1) n (state_of s) within few i (memo-at e))
 
-        pub outcome-ready : (walking : Bool) → Ready image names (tables memo' walked table marks) (record { left = c.left - 1; walking = walking; skips = c.skips; count = c.count }) s
-        outcome-ready walking = record { read = h.read; skips = h.skips; standing = along-standing opened h.standing; state = h.state }
+        pub outcome-ready : Ready q
+        outcome-ready = ready-by h w.image w.skips (along-standing opened h.standing)
 
-        module _ {a : Ans} {memo₂ walked₂ table₂ marks₂ : List ℕ}
-            (asked : Answering image (tables memo' walked table marks) c.count (λ S W. step S (visit S (c.left - 1)) false n (state_of s) W) (λ o. IsOutcome o a.out) a.refusal a.count (tables memo₂ walked₂ table₂ marks₂)) where
-          pub outcome-refused : (a.refusal ≡ 0 → ⊥)
-              → Asked image (tables memo walked table marks) c (λ S W. visit S c.left false n (state_of s) W) a (tables memo₂ walked₂ table₂ marks₂)
-          outcome-refused y = rw some_left (along-answer opened (refused-on asked (λ S o W₁. given o (closes n (state_of s) o W₁)) y))
+        module _ {a : Result Code.Outcome Refusal} {q₁ : Pass} (asked : Answers q (λ S W. step S (visit S (left - 1)) false n (state_of s) W) IsOutcome a q₁) where
+          pub outcome-refused : {x : Refusal} → a ≡ Err x → Answers p (λ S W. visit S left false n (state_of s) W) IsOutcome (Err x) q₁
+          outcome-refused {x} y =
+              rw some_left
+              (record {
+                so = along-answer opened (over {I = IsOutcome} {r = Err x} (on_err asked y (λ S o W₁. given o (closes n (state_of s) o W₁))) w.image);
+              })
 
-          pub outcome-formed : a.refusal ≡ 0 → Formed a.out
-          outcome-formed y = asked-formed (outcome-ready false) asked y
-
-          pub outcome-stored : a.refusal ≡ 0 → {v : ℕ} → v ≡ outcome_number (outcome_of a.out) → {memo₃ : List ℕ} → memo₃ ≡ set_value 4 8 memo₂ i v
-              → Asked image (tables memo walked table marks) c (λ S W. visit S c.left false n (state_of s) W) a (tables memo₃ walked₂ table₂ marks₂)
-          outcome-stored y {v} ve {memo₃} me =
-              rw (some_left, y, me, ve)
-              (along-answer opened
-              (closing {Q = λ S W. step S (visit S (c.left - 1)) false n (state_of s) W} n (state_of s) few within i (outcome_of a.out) (λ x j. sym j.outcome) (outcome-within a.out (outcome-formed y))
-              (rw placed (opened-place n (state_of s) within h.standing few i (memo-at e))) (rw (← y) asked)))
+          module _ {o : Code.Outcome} (y : a ≡ Ok o) {t : Pass} {v : ℕ} (ve : v ≡ outcome_number (outcome_of o)) (stored : tables_of t ≡ tables (set_value 4 8 q₁.memo.now i v) q₁.walked.now q₁.table.now q₁.marks.now) (same-count : t.count ≡ q₁.count) where
+            pub outcome-stored : Answers p (λ S W. visit S left false n (state_of s) W) IsOutcome (Ok o) t
+            outcome-stored =
+                rw some_left
+                (record {
+                  so = rw (stored, same-count, ve)
+                      (along-answer opened
+                      (closing {Q = λ S W. step S (visit S (left - 1)) false n (state_of s) W} n (state_of s) few within i (outcome_of o) (λ x j. sym j.outcome) (outcome-within o (outcome-formed asked y outcome-ready))
+                      (rw (ap (λ (T : Tables). T.memo) w.bytes, placed) (opened-place n (state_of s) within h.standing few i (memo-at e)))
+                      (over (said asked y) w.image)));
+                })
 
 -- a test of walking
 pub walking_on : (b : Bool) → not b ≡ false → b ≡ true
@@ -161,9 +169,9 @@ walking-off true e = absurd (let z : ◌≡◌ {A = ℕ} 0 1 = cc in omega arith
 walking-off false e = refl
 
 -- walking is off
-pub not-walking : {image : List ℕ} {T T' : Tables} (c : Ctx) (n : ℕ) (s : AbsStack) {r : Ans} → c.walking ≡ false
-    → Asked image T c (λ S W. visit S c.left false n (state_of s) W) r T' → Asked image T c (λ S W. visit S c.left c.walking n (state_of s) W) r T'
-not-walking c n s e a = rw e a
+pub not-walking : {p q : Pass} (d : Down) (n : ℕ) (s : AbsStack) {r : Result Code.Outcome Refusal} → d.walking ≡ false
+    → Answers p (λ S W. visit S d.left false n (state_of s) W) IsOutcome r q → Answers p (λ S W. visit S d.left d.walking n (state_of s) W) IsOutcome r q
+not-walking d n s e a = rw e a
 
 -- the place is still there after the step
 pub store-place : (memo : List ℕ) {memo' : List ℕ} (memo₂ : List ℕ) (k i : ℕ) → i < places 8 memo → memo' ≡ set_place 4 8 memo i k 0 → length memo₂ ≡ length memo' → i < places 8 memo₂

@@ -1,2 +1,3 @@
--- What the members of the cycle ask and promise.
+-- What the methods of the pass and its public function ask and promise.
+pub mod Methods
 pub mod Promise

@@ -1,4 +1,5 @@
 -- The nodes that repeat a part without bound are Rep, RepOnce and RepMin of the image, and no numbers past its nodes. Assumes nothing.
+use Rattle.std.specs.Prelude.{Option, Some, None}
 use mathlib.Core.Path.{◌≡◌, refl, sym, ap, ◌∙◌}
 use mathlib.Core.Bool.{Bool, true, false, not, cond, false≢true}
 use mathlib.Core.List.{List}
@@ -10,8 +11,6 @@ use lib.ListN.{length, get_or-eq_default}
 use borrow.Author.Tests.{ltb-true, ltb-false}
 use Rattle.image.specs.declared.expr.Expr.{Expr}
 use Rattle.image.specs.declared.expr.Expr.TheVariants.{Str, Insens, Range, Ident, PeekSlice, PosPred, NegPred, Seq, Choice, Opt, Rep, RepOnce, RepExact, RepMin, RepMax, RepMinMax, Push, PushLiteral, NodeTag}
-use Rattle.image.specs.declared.access.Found.{Found}
-use Rattle.image.specs.declared.access.Found.TheVariants.{At, Nothing}
 use Rattle.image.specs.Lists.{same}
 use Rattle.image.specs.Grammar.{Grammar, Node, no_node, expr_at, text_of, find_rule}
 use Rattle.machine.specs.Kind as K
@@ -45,10 +44,10 @@ either-not : (t : Bool) (a b : K.Kind) → is_unbounded a ≡ false → is_unbou
 either-not true a b h k = h
 either-not false a b h k = k
 
-found-not : (g : Grammar) (found : Found) → is_unbounded (found_kind g found) ≡ false
+found-not : (g : Grammar) (found : Option ℕ) → is_unbounded (found_kind g found) ≡ false
 unfolding is_unbounded
-found-not g (At i) = refl
-found-not g Nothing = refl
+found-not g (Some i) = refl
+found-not g None = refl
 
 name-not : (g : Grammar) (name : List ℕ) → is_unbounded (name_kind g name) ≡ false
 unfolding name_kind is_unbounded

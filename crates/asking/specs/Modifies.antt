@@ -1,9 +1,7 @@
 -- `rule_modifies_stack` (document 01, "Outcomes", "Skips"): whether a rule may change the stack. It never gives 12. Assumes nothing.
-use Rattle.std.specs.Prelude.{Bool, true, false, ◌||◌, List, [], ◌∷◌, ℕ, zero, suc, eqb, length}
+use Rattle.std.specs.Prelude.{Bool, true, false, ◌||◌, List, [], ◌∷◌, ℕ, zero, suc, eqb, length, Option, Some, None}
 use Rattle.image.specs.declared.expr.Expr.{Expr}
 use Rattle.image.specs.declared.expr.Expr.TheVariants.{Str, Insens, Range, Ident, PeekSlice, PosPred, NegPred, Seq, Choice, Opt, Rep, RepOnce, RepExact, RepMin, RepMax, RepMinMax, Push, PushLiteral, NodeTag}
-use Rattle.image.specs.declared.access.Found.{Found}
-use Rattle.image.specs.declared.access.Found.TheVariants.{At, Nothing}
 use Rattle.image.specs.Lists.{same}
 use Rattle.image.specs.Grammar.{Grammar, expr_at, root_at, text_of, find_rule}
 use Rattle.asking.specs.Reading.{POP, POP-ALL, DROP, WHITESPACE, COMMENT}
@@ -34,9 +32,9 @@ module _ (g : Grammar) where
   new_rule node i seen true = looked false seen
   new_rule node i seen false = node (root_at g i) (i ∷ seen)
 
-  abbrev pub found_modifies : (ℕ → List ℕ → Looked) → List ℕ → Found → Looked
-  found_modifies rule seen (At i) = rule i seen
-  found_modifies rule seen Nothing = looked false seen
+  abbrev pub found_modifies : (ℕ → List ℕ → Looked) → List ℕ → Option ℕ → Looked
+  found_modifies rule seen (Some i) = rule i seen
+  found_modifies rule seen None = looked false seen
 
   -- POP, DROP and POP_ALL change the stack; any other name is a rule's
   abbrev pub name_if : (ℕ → List ℕ → Looked) → List ℕ → List ℕ → Bool → Looked

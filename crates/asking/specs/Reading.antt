@@ -1,9 +1,7 @@
 -- From the image's grammar to what its nodes are: built-in stack names before rules, slices, bounds. Assumes nothing.
-use Rattle.std.specs.Prelude.{ℕ, ◌-◌, min, Bool, true, false, ◌||◌, not, cond, List, [], ◌∷◌, eqb}
+use Rattle.std.specs.Prelude.{ℕ, ◌-◌, min, Bool, true, false, ◌||◌, not, cond, List, [], ◌∷◌, eqb, Option, Some, None}
 use Rattle.image.specs.declared.expr.Expr.{Expr}
 use Rattle.image.specs.declared.expr.Expr.TheVariants.{Str, Insens, Range, Ident, PeekSlice, PosPred, NegPred, Seq, Choice, Opt, Rep, RepOnce, RepExact, RepMin, RepMax, RepMinMax, Push, PushLiteral, NodeTag}
-use Rattle.image.specs.declared.access.Found.{Found}
-use Rattle.image.specs.declared.access.Found.TheVariants.{At, Nothing}
 use Rattle.image.specs.Lists.{same}
 use Rattle.image.specs.Verdict.{cannot_fail, not_progressing}
 use Rattle.image.specs.Grammar.{Grammar, expr_at, bits_at, root_at, text_of, find_rule}
@@ -33,9 +31,9 @@ abbrev pub COMMENT : List ℕ
 COMMENT = 67 ∷ 79 ∷ 77 ∷ 77 ∷ 69 ∷ 78 ∷ 84 ∷ []
 
 -- a name that is none of the built-in stack names: a rule's, or unknown
-abbrev pub found_kind : Grammar → Found → K.Kind
-found_kind g (At i) = K.Rule (root_at g i)
-found_kind g Nothing = K.Match
+abbrev pub found_kind : Grammar → Option ℕ → K.Kind
+found_kind g (Some i) = K.Rule (root_at g i)
+found_kind g None = K.Match
 
 -- "Built-in stack names come before rules."
 unfoldable pub name_kind : Grammar → List ℕ → K.Kind
@@ -87,9 +85,9 @@ abbrev pub kind_at : Grammar → ℕ → K.Kind
 kind_at g n = kind_of g (expr_at g n)
 
 -- "Skips (WHITESPACE or COMMENT a rule)"
-abbrev pub is_rule : Found → Bool
-is_rule (At i) = true
-is_rule Nothing = false
+abbrev pub is_rule : Option ℕ → Bool
+is_rule (Some i) = true
+is_rule None = false
 
 unfoldable pub skips_of : Grammar → Bool
 skips_of g = is_rule (find_rule g WHITESPACE) || is_rule (find_rule g COMMENT)

@@ -1,5 +1,6 @@
 -- Every node that a pass names is a node of the grammar: the nodes that are walked top down, the judged sides, and the Ident that is
 -- found. Assumes nothing.
+use Rattle.std.specs.Prelude.{Option, Some, None}
 use mathlib.Core.Path.{◌≡◌, refl}
 use mathlib.Core.Bool.{Bool, true, false, cond, false≢true}
 use mathlib.Core.List.{List, [], ◌∷◌}
@@ -9,8 +10,6 @@ use lib.Dec.{eqb, ltb}
 use lib.ListN.{length}
 use Rattle.image.specs.declared.expr.Expr.{Expr}
 use Rattle.image.specs.declared.expr.Expr.TheVariants.{Str, Insens, Range, Ident, PeekSlice, PosPred, NegPred, Seq, Choice, Opt, Rep, RepOnce, RepExact, RepMin, RepMax, RepMinMax, Push, PushLiteral, NodeTag}
-use Rattle.image.specs.declared.access.Found.{Found}
-use Rattle.image.specs.declared.access.Found.TheVariants.{At, Nothing}
 use Rattle.image.specs.Lists.{AllBelow}
 use Rattle.image.specs.Kinds.{numbers_of, parts_of}
 use Rattle.image.specs.Verdict.{passable}
@@ -112,9 +111,9 @@ module _ (g : Grammar) (formed : Formed g) where
         go true = k a.entered
         go false = h
 
-    name-finds : (seek : Seeker) → Finder seek → (trail : List ℕ) (entered n : ℕ) → IsNode g n → (name : List ℕ) (found : Found) → Says g name found
+    name-finds : (seek : Seeker) → Finder seek → (trail : List ℕ) (entered n : ℕ) → IsNode g n → (name : List ℕ) (found : Option ℕ) → Says g name found
         → Finds (check_name g first seek trail entered n found)
-    name-finds seek h trail entered n l name (At r) s = met (eqb r first)
+    name-finds seek h trail entered n l name (Some r) s = met (eqb r first)
       where
         on : (t : Bool) → Finds (check_on g first seek trail entered r t)
         on true = omega arith
@@ -123,7 +122,7 @@ module _ (g : Grammar) (formed : Formed g) where
         met : (t : Bool) → Finds (check_rule g first seek trail entered n r t)
         met true = l
         met false = on (is_on r trail)
-    name-finds seek h trail entered n l name Nothing s = omega arith
+    name-finds seek h trail entered n l name None s = omega arith
 
     seq-finds : (seek : Seeker) → Finder seek → (trail : List ℕ) (entered left right : ℕ) → IsNode g left → IsNode g right → (t : Bool)
         → Finds (check_seq g first seek trail entered left right t)

@@ -1,4 +1,5 @@
 -- The fields of the outcome's number as the code shifts and masks them. Assumes nothing.
+use Rattle.std.specs.Prelude.{Option}
 use mathlib.Core.Path.{◌≡◌, refl, sym}
 use Prim.Native.Nat.{ℕ, ◌+◌, ◌*◌, ◌^◌, ◌/◌, ◌%◌, ◌<◌}
 use native.Mathlib.Omega.{arith}
@@ -9,13 +10,13 @@ use Rattle.stack.specs.State.{max_len}
 use Rattle.stack.specs.Number.{bit}
 use Rattle.stack.proofs.Fields.{beside, byte-is-bit}
 use Rattle.stack.proofs.Numbers.{bit-lt}
-use Rattle.outcomes.specs.declared.Maybe.{Maybe}
 use Rattle.outcomes.specs.declared.Outcome.{Outcome}
 use Rattle.outcomes.specs.Promise.{maybe_of, outcome_of, Formed, IsMaybe, IsOutcome}
 use Rattle.outcomes.specs.Word.{maybe_number, maybe_at, outcome_number, outcome_at, NumberOfMaybe, NumberOfOutcome}
 use Rattle.outcomes.proofs.Made.{made}
 use Rattle.outcomes.proofs.Words.{maybe_number-lt, number_ok, number-err}
 use Rattle.outcomes.proofs.Within.{maybe-within}
+use Rattle.stack.specs.declared.AbsStack.{AbsStack}
 
 -- the three fields of an outcome's word, side by side over its formed bit
 coded : (err ok e : ℕ) → err < 32768 → ok < 32768 → e < 2
@@ -64,7 +65,7 @@ module _ (v : ℕ) (h : NumberOfOutcome max_len v) where
     number = rw (← h.number, field (outcome_number h.outcome / 131072)) (sym (number-err h.outcome h.within));
   }
 
-pub decode-law : (v : ℕ) {ok err : Maybe} → IsMaybe (maybe_at (bit_and (v / 4) 32767)) ok → IsMaybe (maybe_at (bit_and (v / 131072) 32767)) err
+pub decode-law : (v : ℕ) {ok err : Option AbsStack} → IsMaybe (maybe_at (bit_and (v / 4) 32767)) ok → IsMaybe (maybe_at (bit_and (v / 131072) 32767)) err
     → IsOutcome (outcome_at v) (record { ok = ok; err = err; empty = eqb (bit_and (v / 2) 1) 1 })
 unfolding outcome_at
 decode-law v hok herr = made (rw (field (v / 4)) at hok) (rw (field (v / 131072)) at herr) (rw (and_mask (v / 2) 1))

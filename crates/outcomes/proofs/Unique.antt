@@ -1,4 +1,5 @@
 -- Two results that fit a public function's promise are equal. Assumes nothing.
+use Rattle.std.specs.Prelude.{Option, Some, None}
 use mathlib.Core.Path.{◌≡◌, refl, sym, ap, ◌∙◌}
 use mathlib.Core.Bool.{Bool}
 use Prim.Native.Nat.{ℕ}
@@ -8,23 +9,21 @@ use Rattle.stack.specs.State.{max_len, popped_one}
 use Rattle.stack.specs.Promise.{state_of}
 use Rattle.stack.proofs.Unique.{is-unique, eq-unique}
 use Rattle.machine.specs.Outcome as M
-use Rattle.outcomes.specs.declared.Maybe.{Maybe}
-use Rattle.outcomes.specs.declared.Maybe.TheVariants.{Nothing, State}
 use Rattle.outcomes.specs.declared.Outcome.{Outcome}
 use Rattle.outcomes.specs.Promise.{maybe_of, outcome_of, FormedMaybe, IsMaybe, IsOutcome}
 use Rattle.outcomes.specs.Word.{outcome_number, outcome_at}
 
 -- one well-formed enum stands for a state or nothing
-same-maybe : (r q : Maybe) → FormedMaybe r → FormedMaybe q → maybe_of r ≡ maybe_of q → r ≡ q
-same-maybe Nothing Nothing hr hq e = refl
-same-maybe Nothing (State u) hr hq e = let z : ◌≡◌ {A = ℕ} 0 1 = cc in absurd (omega arith)
-same-maybe (State s) Nothing hr hq e = let z : ◌≡◌ {A = ℕ} 0 1 = cc in absurd (omega arith)
-same-maybe (State s) (State u) hr hq e =
+same-maybe : (r q : Option AbsStack) → FormedMaybe r → FormedMaybe q → maybe_of r ≡ maybe_of q → r ≡ q
+same-maybe None None hr hq e = refl
+same-maybe None (Some u) hr hq e = let z : ◌≡◌ {A = ℕ} 0 1 = cc in absurd (omega arith)
+same-maybe (Some s) None hr hq e = let z : ◌≡◌ {A = ℕ} 0 1 = cc in absurd (omega arith)
+same-maybe (Some s) (Some u) hr hq e =
     let same : state_of s ≡ state_of u = cc in
-    ap State (is-unique s u (record { state = same; well_formed = hr }) (record { state = refl; well_formed = hq }))
+    ap Some (is-unique s u (record { state = same; well_formed = hr }) (record { state = refl; well_formed = hq }))
 
 -- the laws behind every promise that says `IsMaybe` or `IsOutcome`
-pub is-maybe-unique : {t : M.Maybe} (r q : Maybe) → IsMaybe t r → IsMaybe t q → r ≡ q
+pub is-maybe-unique : {t : M.Maybe} (r q : Option AbsStack) → IsMaybe t r → IsMaybe t q → r ≡ q
 is-maybe-unique r q hr hq = same-maybe r q hr.formed hq.formed (hr.maybe ∙ sym hq.maybe)
 
 module _ {t : M.Outcome} (r q : Outcome) (hr : IsOutcome t r) (hq : IsOutcome t q) where
@@ -42,7 +41,7 @@ abbrev pub OneOutcome : M.Outcome → Type 0
 OneOutcome t = (r q : Outcome) → IsOutcome t r → IsOutcome t q → r ≡ q
 
 abbrev pub OneMaybe : M.Maybe → Type 0
-OneMaybe t = (r q : Maybe) → IsMaybe t r → IsMaybe t q → r ≡ q
+OneMaybe t = (r q : Option AbsStack) → IsMaybe t r → IsMaybe t q → r ≡ q
 
 pub unknown-unique : OneOutcome M.unknown
 unknown-unique = is-outcome-unique
@@ -94,14 +93,11 @@ module _ (s : AbsStack) where
     pub of-opt-unique : OneOutcome (M.of_opt (state_of s) (outcome_of o))
     of-opt-unique = is-outcome-unique
 
-  pub failed-unique : (err : Maybe) → OneMaybe (M.failed (maybe_of err) (state_of s))
+  pub failed-unique : (err : Option AbsStack) → OneMaybe (M.failed (maybe_of err) (state_of s))
   failed-unique err = is-maybe-unique
 
-pub joined-unique : (a b : Maybe) → OneMaybe (M.joined (maybe_of a) (maybe_of b))
+pub joined-unique : (a b : Option AbsStack) → OneMaybe (M.joined (maybe_of a) (maybe_of b))
 joined-unique a b = is-maybe-unique
-
-pub is-some-unique : (m : Maybe) (r q : Bool) → r ≡ M.is_some (maybe_of m) → q ≡ M.is_some (maybe_of m) → r ≡ q
-is-some-unique m r q = eq-unique
 
 module _ (o : Outcome) where
   pub of-push-unique : OneOutcome (M.of_push max_len (outcome_of o))

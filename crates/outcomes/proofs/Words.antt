@@ -7,10 +7,10 @@ use native.Mathlib.Numerals.{add-one}
 use native.Mathlib.Omega.{arith}
 use lib.Dec.{eqb}
 use Rattle.stack.specs.State.{State, Within, max_len}
-use Rattle.stack.specs.Number.{bit, number_of, state_at, NumberOfState}
+use Rattle.stack.specs.Number.{bit, number_of, state_at}
 use Rattle.stack.proofs.Numbers.{bit-lt, bit-eqb, base-lt, blank-lt, state_at-number_of}
 use Rattle.machine.specs.Outcome.{Maybe, Outcome}
-use Rattle.outcomes.specs.Word.{WithinMaybe, WithinOutcome, maybe_number, maybe_at, outcome_number, outcome_at, NumberOfMaybe, NumberOfOutcome}
+use Rattle.outcomes.specs.Word.{WithinMaybe, WithinOutcome, maybe_number, maybe_at, outcome_number, outcome_at, NumberOfOutcome}
 
 -- a state's number leaves room for one more in 15 bits
 state-lt : (s : State) → Within max_len s → number_of s + 1 < 32768
@@ -29,13 +29,6 @@ maybe_at-maybe_number (some s) w = rw (add-one (number_of s)) (ap some (state_at
 pub maybe_at-state : (n : ℕ) → (n ≡ 0 → ⊥) → some (state_at (n - 1)) ≡ maybe_at n
 maybe_at-state zero h = absurd (h refl)
 maybe_at-state (suc n) h = let e : suc n - 1 ≡ n = omega arith in rw e
-
-pub number-of-state : (n : ℕ) → NumberOfMaybe max_len n → (n ≡ 0 → ⊥) → NumberOfState max_len (n - 1)
-number-of-state n h p = go h.maybe h.within h.number
-  where
-    go : (m : Maybe) → WithinMaybe max_len m → maybe_number m ≡ n → NumberOfState max_len (n - 1)
-    go none w e = absurd (p (sym e))
-    go (some s) w e = record { state = s; within = w; number = omega arith }
 
 -- an answer's number is not that of an open pair
 pub outcome_number-marked : (o : Outcome) → 0 < outcome_number o

@@ -2,11 +2,10 @@
 // 01, "Outcomes"). Each promise is an equation with a definition of the machine.
 #![tactic(auto)]
 
-ghost use Rattle.std.specs.Prelude.{◌≡◌, ◌&&◌, ◌||◌, cond};
-ghost use Rattle.std.proofs.Math.Option.{none, some};
+ghost use Rattle.std.specs.Prelude.{◌≡◌};
 ghost use Rattle.stack.specs.State.{max_len, popped_one};
 ghost use Rattle.stack.specs.Promise.{state_of, WellFormed};
-ghost use Rattle.machine.specs.Outcome.{unknown, succeeds, fails, either, never, is_some, instead, joined, failed, pushed, still, exact, of_peek_all, of_pop_all, of_top, of_drop, of_pos_pred, of_neg_pred, of_seq, of_choice, of_opt, of_push, of_push_literal};
+ghost use Rattle.machine.specs.Outcome.{unknown, succeeds, fails, either, never, joined, failed, still, exact, of_peek_all, of_pop_all, of_top, of_drop, of_pos_pred, of_neg_pred, of_seq, of_choice, of_opt, of_push, of_push_literal};
 ghost use Rattle.outcomes.specs.Promise.{maybe_of, outcome_of, FormedMaybe, Formed, IsMaybe, IsOutcome};
 
 use stack::AbsStack;
@@ -14,30 +13,15 @@ use stack::AbsStack;
 pub mod word;
 
 // A state, or nothing: that outcome cannot happen.
-#[derive(Clone, Copy)]
-pub enum Maybe {
-    Nothing,
-    State(AbsStack),
-}
+pub type Maybe = Option<AbsStack>;
 
 // The state after a success, the state after a failure, and whether a success consumed nothing.
-#[derive(Clone, Copy)]
+// Clauses ask for `Formed` states and the struct has no invariant, since `still` answers for ill-formed ones too.
+#[derive(Clone, Copy, Debug, PartialEq, Eq)]
 pub struct Outcome {
     pub ok: Maybe,
     pub err: Maybe,
     pub empty: bool,
-}
-
-fn and(a: bool, b: bool) -> bool
-    ensures { result ≡ a && b }
-{
-    if a { b } else { false }
-}
-
-fn or(a: bool, b: bool) -> bool
-    ensures { result ≡ a || b }
-{
-    if a { true } else { b }
 }
 
 // Nothing is known: the answer of a pair that is still open.
@@ -53,8 +37,8 @@ pub fn succeeds(s: AbsStack) -> Outcome
     ensures { IsOutcome (succeeds (state_of s)) result }
 {
     Outcome {
-        ok: Maybe::State(s),
-        err: Maybe::Nothing,
+        ok: Some(s),
+        err: None,
         empty: true,
     }
 }
@@ -65,8 +49,8 @@ pub fn fails(s: AbsStack) -> Outcome
     ensures { IsOutcome (fails (state_of s)) result }
 {
     Outcome {
-        ok: Maybe::Nothing,
-        err: Maybe::State(s),
+        ok: None,
+        err: Some(s),
         empty: false,
     }
 }
@@ -77,8 +61,8 @@ pub fn either(s: AbsStack) -> Outcome
     ensures { IsOutcome (either (state_of s)) result }
 {
     Outcome {
-        ok: Maybe::State(s),
-        err: Maybe::State(s),
+        ok: Some(s),
+        err: Some(s),
         empty: false,
     }
 }
@@ -88,37 +72,9 @@ pub fn never() -> Outcome
     ensures { IsOutcome never result }
 {
     Outcome {
-        ok: Maybe::Nothing,
-        err: Maybe::Nothing,
+        ok: None,
+        err: None,
         empty: true,
-    }
-}
-
-pub fn is_some(m: Maybe) -> bool
-    ensures { result ≡ is_some (maybe_of m) }
-{
-    match m {
-        Maybe::Nothing => false,
-        Maybe::State(_) => true,
-    }
-}
-
-// `s` where `b` holds.
-fn only_if(b: bool, s: AbsStack) -> Maybe
-    requires { WellFormed max_len s }
-    ensures { IsMaybe (cond b (some (state_of s)) none) result }
-{
-    if b { Maybe::State(s) } else { Maybe::Nothing }
-}
-
-// `s` wherever that outcome can happen.
-fn instead(m: Maybe, s: AbsStack) -> Maybe
-    requires { WellFormed max_len s }
-    ensures { IsMaybe (instead (maybe_of m) (state_of s)) result }
-{
-    match m {
-        Maybe::Nothing => Maybe::Nothing,
-        Maybe::State(_) => Maybe::State(s),
     }
 }
 
@@ -127,12 +83,9 @@ pub fn joined(a: Maybe, b: Maybe) -> Maybe
     requires { FormedMaybe a × FormedMaybe b }
     ensures { IsMaybe (joined (maybe_of a) (maybe_of b)) result }
 {
-    match a {
-        Maybe::Nothing => b,
-        Maybe::State(x) => match b {
-            Maybe::Nothing => a,
-            Maybe::State(y) => Maybe::State(x.join(y)),
-        },
+    match (a, b) {
+        (Some(x), Some(y)) => Some(x.join(y)),
+        _ => a.or(b),
     }
 }
 
@@ -141,28 +94,14 @@ pub fn failed(err: Maybe, s: AbsStack) -> Maybe
     requires { FormedMaybe err × WellFormed max_len s }
     ensures { IsMaybe (failed (maybe_of err) (state_of s)) result }
 {
-    match err {
-        Maybe::Nothing => Maybe::Nothing,
-        Maybe::State(e) => Maybe::State(e.join(s)),
-    }
-}
-
-fn pushed(blank: bool, m: Maybe) -> Maybe
-    requires { FormedMaybe m }
-    ensures { IsMaybe (pushed max_len blank (maybe_of m)) result }
-{
-    match m {
-        Maybe::Nothing => Maybe::Nothing,
-        Maybe::State(s) => Maybe::State(s.push(blank)),
-    }
+    err.map(|e| e.join(s))
 }
 
 // Where it succeeds it consumes nothing.
 pub fn still(o: Outcome) -> bool
     ensures { result ≡ still (outcome_of o) }
 {
-    let ok = o.ok;
-    or(!is_some(ok), o.empty)
+    o.ok.is_none() || o.empty
 }
 
 // The state after, where it surely succeeds and consumes nothing.
@@ -170,12 +109,10 @@ pub fn exact(o: Outcome) -> Maybe
     requires { Formed o }
     ensures { IsMaybe (exact (outcome_of o)) result }
 {
-    let ok = o.ok;
-    let err = o.err;
-    if and(!is_some(err), o.empty) {
-        ok
+    if o.err.is_none() && o.empty {
+        o.ok
     } else {
-        Maybe::Nothing
+        None
     }
 }
 
@@ -194,14 +131,12 @@ pub fn of_pop_all(s: AbsStack) -> Outcome
     ensures { IsOutcome (of_pop_all (state_of s)) result }
 {
     let emptied = s.popped_all();
-    let lost = AbsStack::unknown();
-    let sure = s.all_blank();
-    if sure {
+    if s.all_blank() {
         succeeds(emptied)
     } else {
         Outcome {
-            ok: Maybe::State(emptied),
-            err: Maybe::State(lost),
+            ok: Some(emptied),
+            err: Some(AbsStack::unknown()),
             empty: false,
         }
     }
@@ -212,10 +147,9 @@ fn of_top(s: AbsStack, after: AbsStack) -> Outcome
     requires { WellFormed max_len s × WellFormed max_len after }
     ensures { IsOutcome (of_top (state_of s) (state_of after)) result }
 {
-    let matched = s.top_blank();
     if s.is_empty() {
         never()
-    } else if matched {
+    } else if s.top_blank() {
         succeeds(after)
     } else {
         either(after)
@@ -234,8 +168,7 @@ pub fn of_pop(s: AbsStack) -> Outcome
     requires { WellFormed max_len s }
     ensures { IsOutcome (of_top (state_of s) (popped_one (state_of s))) result }
 {
-    let after = s.popped_one();
-    of_top(s, after)
+    of_top(s, s.popped_one())
 }
 
 // DROP fails on an empty stack.
@@ -244,15 +177,14 @@ pub fn of_drop(s: AbsStack) -> Outcome
     ensures { IsOutcome (of_drop (state_of s)) result }
 {
     let dropped = s.popped_one();
-    let filled = s.non_empty();
     if s.is_empty() {
         fails(s)
-    } else if filled {
+    } else if s.non_empty() {
         succeeds(dropped)
     } else {
         Outcome {
-            ok: Maybe::State(dropped),
-            err: Maybe::State(s),
+            ok: Some(dropped),
+            err: Some(s),
             empty: true,
         }
     }
@@ -263,11 +195,9 @@ pub fn of_pos_pred(s: AbsStack, o: Outcome) -> Outcome
     requires { WellFormed max_len s }
     ensures { IsOutcome (of_pos_pred (state_of s) (outcome_of o)) result }
 {
-    let ok = o.ok;
-    let err = o.err;
     Outcome {
-        ok: instead(ok, s),
-        err: instead(err, s),
+        ok: o.ok.and(Some(s)),
+        err: o.err.and(Some(s)),
         empty: true,
     }
 }
@@ -276,11 +206,9 @@ pub fn of_neg_pred(s: AbsStack, o: Outcome) -> Outcome
     requires { WellFormed max_len s }
     ensures { IsOutcome (of_neg_pred (state_of s) (outcome_of o)) result }
 {
-    let ok = o.ok;
-    let err = o.err;
     Outcome {
-        ok: instead(err, s),
-        err: instead(ok, s),
+        ok: o.err.and(Some(s)),
+        err: o.ok.and(Some(s)),
         empty: true,
     }
 }
@@ -290,14 +218,11 @@ pub fn of_seq(skips: bool, s: AbsStack, l: Outcome, r: Outcome) -> Outcome
     requires { WellFormed max_len s × Formed r }
     ensures { IsOutcome (of_seq skips (state_of s) (outcome_of l) (outcome_of r)) result }
 {
-    let ok = r.ok;
-    let left = l.err;
-    let right = r.err;
-    let restored = only_if(or(is_some(left), is_some(right)), s);
+    let may_fail = l.err.is_some() || r.err.is_some();
     Outcome {
-        ok: ok,
-        err: restored,
-        empty: and(and(l.empty, r.empty), !skips),
+        ok: r.ok,
+        err: may_fail.then_some(s),
+        empty: l.empty && r.empty && !skips,
     }
 }
 
@@ -306,14 +231,10 @@ pub fn of_choice(s: AbsStack, l: Outcome, r: Outcome) -> Outcome
     requires { WellFormed max_len s × Formed l × Formed r }
     ensures { IsOutcome (of_choice (state_of s) (outcome_of l) (outcome_of r)) result }
 {
-    let left = l.ok;
-    let right = r.ok;
-    let err = r.err;
-    let after = failed(err, s);
     Outcome {
-        ok: joined(left, right),
-        err: after,
-        empty: and(still(l), still(r)),
+        ok: joined(l.ok, r.ok),
+        err: failed(r.err, s),
+        empty: still(l) && still(r),
     }
 }
 
@@ -321,11 +242,9 @@ pub fn of_opt(s: AbsStack, o: Outcome) -> Outcome
     requires { WellFormed max_len s × Formed o }
     ensures { IsOutcome (of_opt (state_of s) (outcome_of o)) result }
 {
-    let ok = o.ok;
-    let err = o.err;
     Outcome {
-        ok: joined(ok, failed(err, s)),
-        err: Maybe::Nothing,
+        ok: joined(o.ok, failed(o.err, s)),
+        err: None,
         empty: still(o),
     }
 }
@@ -335,13 +254,9 @@ pub fn of_push(o: Outcome) -> Outcome
     requires { Formed o }
     ensures { IsOutcome (of_push max_len (outcome_of o)) result }
 {
-    let ok = o.ok;
-    let err = o.err;
-    let empty = o.empty;
     Outcome {
-        ok: pushed(empty, ok),
-        err: err,
-        empty: empty,
+        ok: o.ok.map(|s| s.push(o.empty)),
+        ..o
     }
 }
 

@@ -6,25 +6,19 @@ ghost use Rattle.outcomes.specs.Word.{maybe_number, maybe_at, outcome_number, ou
 
 use crate::{Maybe, Outcome};
 
+#[tactic(auto, using(crate::proofs::Within::number_below))]
 fn maybe_number(m: Maybe) -> u16
     requires { FormedMaybe m }
     ensures { result ≡ maybe_number (maybe_of m) }
 {
-    match m {
-        Maybe::Nothing => 0,
-        Maybe::State(s) => stack::number::pack(s) + 1,
-    }
+    m.map_or(0, |s| stack::number::pack(s) + 1)
 }
 
 fn maybe_at(n: u16) -> Maybe
     requires { NumberOfMaybe max_len n }
     ensures { IsMaybe (maybe_at n) result }
 {
-    if n == 0 {
-        Maybe::Nothing
-    } else {
-        Maybe::State(stack::number::unpack(n - 1))
-    }
+    n.checked_sub(1).map(stack::number::unpack)
 }
 
 // 1 + 2 × empty + 4 × ok + 131,072 × err
@@ -32,10 +26,9 @@ pub fn encode(o: Outcome) -> u64
     requires { Formed o }
     ensures { result ≡ outcome_number (outcome_of o) }
 {
-    let ok = o.ok;
-    let err = o.err;
-    let upper = ((maybe_number(err) as u64) << 17) | ((maybe_number(ok) as u64) << 2);
-    upper | ((o.empty as u64) << 1) | 1
+    let ok = maybe_number(o.ok) as u64;
+    let err = maybe_number(o.err) as u64;
+    (err << 17) | (ok << 2) | ((o.empty as u64) << 1) | 1
 }
 
 // The outcome of a number that an outcome has.

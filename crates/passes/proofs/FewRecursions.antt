@@ -1,4 +1,5 @@
 -- The pass for reason 5 comes to a refusal of 1 to 13 or one report a rule: the search from a rule ends with 13 at most. Assumes nothing.
+use Rattle.std.specs.Prelude.{Option, Some, None}
 use mathlib.Core.Bool.{Bool, true, false}
 use mathlib.Core.List.{List, [], ◌∷◌, ◌++◌}
 use Prim.Native.Nat.{ℕ, zero, suc, ◌+◌, ◌≤◌}
@@ -7,8 +8,6 @@ use lib.Dec.{eqb, ltb}
 use lib.ListN.{length, length-append}
 use Rattle.image.specs.declared.expr.Expr.{Expr}
 use Rattle.image.specs.declared.expr.Expr.TheVariants.{Str, Insens, Range, Ident, PeekSlice, PosPred, NegPred, Seq, Choice, Opt, Rep, RepOnce, RepExact, RepMin, RepMax, RepMinMax, Push, PushLiteral, NodeTag}
-use Rattle.image.specs.declared.access.Found.{Found}
-use Rattle.image.specs.declared.access.Found.TheVariants.{At, Nothing}
 use Rattle.image.specs.Verdict.{passable}
 use Rattle.image.specs.Grammar.{Grammar, Rule, expr_at, bits_at, root_at, text_of, find_rule}
 use Rattle.tables.specs.Report.{report}
@@ -36,9 +35,9 @@ module _ (g : Grammar) (first : ℕ) (seek : Seeker) (h : Ender seek) (trail : L
   seq-ends left right true = both_end left right
   seq-ends left right false = h trail entered left
 
-  name-ends : (found : Found) → Ends (check_name g first seek trail entered n found)
-  name-ends Nothing = omega arith
-  name-ends (At r) = here (eqb r first)
+  name-ends : (found : Option ℕ) → Ends (check_name g first seek trail entered n found)
+  name-ends None = omega arith
+  name-ends (Some r) = here (eqb r first)
     where
       on : (t : Bool) → Ends (check_on g first seek trail entered r t)
       on true = omega arith

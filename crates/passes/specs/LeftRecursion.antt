@@ -1,10 +1,8 @@
 -- `left_recursion` (document 01, "Left recursion"): from each rule the search for an Ident that names it, with 12, then 13.
 -- Assumes nothing.
-use Rattle.std.specs.Prelude.{Bool, true, false, ◌||◌, List, [], ◌∷◌, ◌++◌, ℕ, zero, suc, eqb, ltb, length}
+use Rattle.std.specs.Prelude.{Bool, true, false, ◌||◌, List, [], ◌∷◌, ◌++◌, ℕ, zero, suc, eqb, ltb, length, Option, Some, None}
 use Rattle.image.specs.declared.expr.Expr.{Expr}
 use Rattle.image.specs.declared.expr.Expr.TheVariants.{Str, Insens, Range, Ident, PeekSlice, PosPred, NegPred, Seq, Choice, Opt, Rep, RepOnce, RepExact, RepMin, RepMax, RepMinMax, Push, PushLiteral, NodeTag}
-use Rattle.image.specs.declared.access.Found.{Found}
-use Rattle.image.specs.declared.access.Found.TheVariants.{At, Nothing}
 use Rattle.image.specs.Verdict.{passable}
 use Rattle.image.specs.Grammar.{Grammar, Rule, expr_at, bits_at, root_at, text_of, find_rule}
 use Rattle.tables.specs.Report.{report}
@@ -48,9 +46,9 @@ module _ (g : Grammar) (first : ℕ) where
   check_rule seek trail entered n r true = record { end = 1; ident = n; entered = entered; trail = trail }
   check_rule seek trail entered n r false = check_on seek trail entered r (is_on r trail)
 
-  abbrev pub check_name : Seeker → List ℕ → ℕ → ℕ → Found → Sought
-  check_name seek trail entered n (At r) = check_rule seek trail entered n r (eqb r first)
-  check_name seek trail entered n Nothing = stopped 0 entered
+  abbrev pub check_name : Seeker → List ℕ → ℕ → ℕ → Option ℕ → Sought
+  check_name seek trail entered n (Some r) = check_rule seek trail entered n r (eqb r first)
+  check_name seek trail entered n None = stopped 0 entered
 
   -- "Seq goes on to its right side only if the left has bit 4"
   abbrev pub check_seq : Seeker → List ℕ → ℕ → ℕ → ℕ → Bool → Sought

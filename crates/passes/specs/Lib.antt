@@ -3,5 +3,6 @@ pub mod Report
 pub mod TopDown
 pub mod LeftRecursion
 pub mod Order
+pub mod Reasons
 pub mod Promise
 pub mod Steps

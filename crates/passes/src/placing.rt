@@ -1,26 +1,36 @@
 // Reports with state 0, and the places that they take in the report table.
 ghost use Rattle.std.specs.Prelude.{◌≡◌, ◌<◌};
 ghost use Rattle.tables.specs.Report.{report};
-ghost use Rattle.passes.specs.Promise.{held, placed};
+ghost use Rattle.passes.specs.Promise.{held, placed, Leaves};
+ghost use Rattle.passes.specs.Reasons.{reason_number};
 
+use image::refusal::Refusal;
 use tables::report::set_word;
 
-// The report of a node.
-pub fn report_of(n: usize, reason: u64) -> u64
-    requires { (n < 65536) × (reason < 8) }
-    ensures { result ≡ report n 0 reason }
-{
-    n as u64 + 4294967296 * reason
+// What a report of these passes says of its node, by the numbers of document 01; 3, the stack loop, is the stack pass's.
+#[derive(Clone, Copy, Debug, PartialEq, Eq)]
+pub enum Reason {
+    RepetitionCannotFail = 1,
+    NotProgressing = 2,
+    ChoiceUnreachable = 4,
+    LeftRecursion = 5,
 }
 
-// Puts a report at the first free place. The count with it; one more than the places where none is free.
-pub fn put(table: &mut [u8], count: usize, x: u64) -> usize
-    ensures { held table.new result ≡ placed (held table.old count) x }
+// The report of a node.
+pub fn report_of(n: usize, reason: Reason) -> u64
+    requires { n < 65536 }
+    ensures { result ≡ report n 0 (reason_number reason) }
 {
-    let places = table.len() / 8;
-    if count < places {
-        set_word(table, count, x);
-        return count + 1;
+    n as u64 + 4294967296 * (reason as u64)
+}
+
+// Puts a report at the first free place. The count with it.
+pub fn put(table: &mut [u8], count: usize, x: u64) -> Result<usize, Refusal>
+    ensures { Leaves result table.new (placed (held table.old count) x) }
+{
+    if table.len() / 8 <= count {
+        return Err(Refusal::ReportsFull);
     }
-    places + 1
+    set_word(table, count, x);
+    Ok(count + 1)
 }

@@ -1,136 +1,144 @@
 // `validate_repetition` and `validate_choices`: reasons 1, 2 and 4, top down, left first, rules in order.
-ghost use Rattle.std.specs.Prelude.{◌≡◌, length, ◌<◌};
-ghost use Rattle.image.specs.Accepted.{Accepted};
+ghost use Rattle.std.specs.Prelude.{◌≡◌, ◌<◌, ℕ, List, Option, length};
+ghost use Rattle.std.specs.Option.{option_to_list};
 ghost use Rattle.image.specs.Grammar.{grammar};
-ghost use Rattle.image.specs.Promise.{AtNode};
+ghost use Rattle.image.specs.Promise.{IsNode};
 ghost use Rattle.passes.specs.Report.{flat};
-ghost use Rattle.passes.specs.TopDown.{top_down, repetition_at, judged_side, choice_at};
-ghost use Rattle.passes.specs.Promise.{held, place_all, Placed};
-ghost use Rattle.passes.specs.Steps.{repeats, some, reports_at, reports_of, PartsDown};
+ghost use Rattle.passes.specs.TopDown.{top_down, nodes_down, repeat_report, repetition_at, judged_side, choice_at, validate_repetition, validate_choices};
+ghost use Rattle.passes.specs.Promise.{held, place_all, Placed, Leaves};
+ghost use Rattle.passes.specs.Steps.{Finds, PartsDown};
 
-use crate::placing::{put, report_of};
-use image::access::{bits_at, expr_at, root_at, rule_count};
-use image::expr::{Parts, numbers_in, parts_in};
+use crate::placing::{Reason, put, report_of};
+use image::Image;
+use image::expr::{Expr, Parts, parts_in};
+use image::refusal::Refusal;
 
-// Rep, RepOnce and RepMin.
-fn is_repeat(kind: u8) -> bool
-    ensures { result ≡ repeats kind }
+// What the bits of a repetition's part give, reason 1 before 2.
+fn repeat_report(n: usize, bits: u8) -> Option<u64>
+    requires { n < 65536 }
+    ensures { option_to_list result ≡ repeat_report n bits }
 {
-    if kind == 11 {
-        return true;
+    if bits % 2 == 1 {
+        return Some(report_of(n, Reason::RepetitionCannotFail));
     }
-    if kind == 12 {
-        return true;
+    if bits / 2 % 2 == 1 {
+        return Some(report_of(n, Reason::NotProgressing));
     }
-    kind == 14
+    None
 }
 
-// The report of a repetition, 0 where none is due.
-fn repetition_at(image: &[u8], n: usize) -> u64
-    requires { AtNode image.now n }
-    ensures { some result ≡ repetition_at (grammar image.now) n }
+// The report of a repetition.
+fn repetition_at(image: Image, n: usize) -> Option<u64>
+    requires { IsNode image.bytes.now n }
+    ensures { option_to_list result ≡ repetition_at (grammar image.entry.bytes.now) n }
 {
-    let v = numbers_in(expr_at(image, n));
-    if is_repeat(v.kind) {
-        let bits = bits_at(image, v.a);
-        if bits % 2 == 1 {
-            return report_of(n, 1);
+    match image.expr_at(n) {
+        Expr::Rep(part) | Expr::RepOnce(part) | Expr::RepMin(part, _) => {
+            repeat_report(n, image.bits_at(part))
         }
-        if bits / 2 % 2 == 1 {
-            return report_of(n, 2);
-        }
+        _ => None,
     }
-    0
 }
 
 // The judged side of a Choice with this left: the left's right where the left is a Choice.
-fn judged_side(image: &[u8], left: usize) -> usize
-    requires { AtNode image.now left }
-    ensures { (result ≡ judged_side (grammar image.now) left) × (result < length (grammar image.now).nodes) }
+fn judged_side(image: Image, left: usize) -> usize
+    requires { IsNode image.bytes.now left }
+    ensures { (result ≡ judged_side (grammar image.entry.bytes.now) left) × (result < length (grammar image.entry.bytes.now).nodes) }
 {
-    let v = numbers_in(expr_at(image, left));
-    if v.kind == 9 { v.b } else { left }
-}
-
-// The report of a Choice's judged side, 0 where none is due.
-fn choice_at(image: &[u8], n: usize) -> u64
-    requires { AtNode image.now n }
-    ensures { some result ≡ choice_at (grammar image.now) n }
-{
-    let v = numbers_in(expr_at(image, n));
-    if v.kind == 9 {
-        let side = judged_side(image, v.a);
-        if bits_at(image, side) % 2 == 1 {
-            return report_of(side, 4);
-        }
-    }
-    0
-}
-
-// The report that a pass finds at a node, 0 where none is due.
-fn report_at(image: &[u8], choices: bool, n: usize) -> u64
-    requires { AtNode image.now n }
-    ensures { some result ≡ reports_at (grammar image.now) choices n }
-{
-    if choices {
-        choice_at(image, n)
-    } else {
-        repetition_at(image, n)
+    match image.expr_at(left) {
+        Expr::Choice(_, right) => right,
+        _ => left,
     }
 }
 
-// Places what a pass finds at a node.
-fn note(image: &[u8], choices: bool, n: usize, table: &mut [u8], count: usize) -> usize
-    requires { AtNode image.now n }
-    ensures { held table.new result ≡ place_all (held table.old count) (reports_at (grammar image.now) choices n) }
+// The report of a Choice's judged side.
+fn choice_at(image: Image, n: usize) -> Option<u64>
+    requires { IsNode image.bytes.now n }
+    ensures { option_to_list result ≡ choice_at (grammar image.entry.bytes.now) n }
 {
-    let x = report_at(image, choices, n);
-    if x == 0 {
-        return count;
-    }
-    put(table, count, x)
+    let Expr::Choice(left, _) = image.expr_at(n) else {
+        return None;
+    };
+    let side = judged_side(image, left);
+    (image.bits_at(side) % 2 == 1).then_some(report_of(side, Reason::ChoiceUnreachable))
 }
 
 // The parts that the passes go on to: none below a NodeTag.
-fn parts_down(image: &[u8], n: usize) -> Parts
-    requires { AtNode image.now n }
-    ensures { PartsDown (grammar image.now) n result }
+fn parts_down(image: Image, n: usize) -> Parts
+    requires { IsNode image.bytes.now n }
+    ensures { PartsDown (grammar image.entry.bytes.now) n result }
 {
-    let e = expr_at(image, n);
-    if numbers_in(e).kind == 19 {
-        return Parts::Leaf;
+    match image.expr_at(n) {
+        Expr::NodeTag(_) => Parts::Leaf,
+        e => parts_in(e),
     }
-    parts_in(e)
 }
 
-// A node, then what is below it, left first.
-fn walk(image: &[u8], choices: bool, n: usize, table: &mut [u8], count: usize) -> usize
-    requires { AtNode image.now n }
-    ensures { held table.new result ≡ place_all (held table.old count) (flat (reports_at (grammar image.now) choices) (top_down (grammar image.now) n)) }
+// Places what `find` reports of a node. The count with it.
+fn note<F: Fn(usize) -> Option<u64>>(
+    find: &F,
+    n: usize,
+    table: &mut [u8],
+    count: usize,
+) -> Result<usize, Refusal>
+    requires { F.pre find.now n }
+    ensures { (due : List ℕ) → ((r : Option ℕ) → F.post find.now n r → option_to_list r ≡ due) → Leaves result table.new (place_all (held table.old count) due) }
 {
-    let here = note(image, choices, n, table, count);
-    let parts = parts_down(image, n);
-    match parts {
-        Parts::Leaf => here,
-        Parts::One(part) => walk(image, choices, part, table, here),
+    match find(n) {
+        Some(x) => put(table, count, x),
+        None => Ok(count),
+    }
+}
+
+// A node, then what is below it, left first: what `find` reports of each is placed. The count with it.
+fn walk<F: Fn(usize) -> Option<u64>>(
+    image: Image,
+    find: &F,
+    n: usize,
+    table: &mut [u8],
+    count: usize,
+) -> Result<usize, Refusal>
+    requires at { IsNode image.bytes.now n }
+    requires callable { (m : ℕ) → IsNode image.bytes.now m → F.pre find.now m }
+    ensures { (due : ℕ → List ℕ) → Finds (F.post find.now) (length (grammar image.entry.bytes.now).nodes) due → Leaves result table.new (place_all (held table.old count) (flat due (top_down (grammar image.entry.bytes.now) n))) }
+{
+    let here = note(find, n, table, count)?;
+    match parts_down(image, n) {
+        Parts::Leaf => Ok(here),
+        Parts::One(part) => walk(image, find, part, table, here),
         Parts::Two(left, right) => {
-            let there = walk(image, choices, left, table, here);
-            walk(image, choices, right, table, there)
+            let there = walk(image, find, left, table, here)?;
+            walk(image, find, right, table, there)
         }
     }
 }
 
-// Reason 4 (`choices`), or 1 and 2: all rules in order. The count with their reports; one more than the places where one was due and none was free.
-pub fn run(image: &[u8], choices: bool, table: &mut [u8], count: usize) -> usize
-    requires { Accepted image.now }
-    ensures { Placed (reports_of (grammar image.now) choices) table.old count table.new result }
+// All rules in order. The count with the reports that `find` gives.
+fn walk_rules<F: Fn(usize) -> Option<u64>>(
+    image: Image,
+    find: &F,
+    table: &mut [u8],
+    mut count: usize,
+) -> Result<usize, Refusal>
+    requires callable { (m : ℕ) → IsNode image.bytes.now m → F.pre find.now m }
+    ensures { (due : ℕ → List ℕ) → Finds (F.post find.now) (length (grammar image.entry.bytes.now).nodes) due → Placed (flat due (nodes_down (grammar image.entry.bytes.now))) table.old count table.new result }
 {
-    let n = rule_count(image);
-    let mut i = 0;
-    let mut c = count;
-    while i < n {
-        c = walk(image, choices, root_at(image, i), table, c);
-        i += 1;
+    for i in 0..image.rule_count() {
+        count = walk(image, find, image.root_at(i), table, count)?;
     }
-    c
+    Ok(count)
+}
+
+// Reasons 1 and 2. The count with their reports.
+pub fn validate_repetition(image: Image, table: &mut [u8], count: usize) -> Result<usize, Refusal>
+    ensures { Placed (validate_repetition (grammar image.entry.bytes.now)) table.old count table.new result }
+{
+    walk_rules(image, &|n| repetition_at(image, n), table, count)
+}
+
+// Reason 4. The count with its reports.
+pub fn validate_choices(image: Image, table: &mut [u8], count: usize) -> Result<usize, Refusal>
+    ensures { Placed (validate_choices (grammar image.entry.bytes.now)) table.old count table.new result }
+{
+    walk_rules(image, &|n| choice_at(image, n), table, count)
 }

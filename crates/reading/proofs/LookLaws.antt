@@ -1,23 +1,16 @@
 -- Laws of what is looked at in an expression: it settles an expression's word, and what the definition of `rule_modifies_stack` does. Assumes nothing.
-use Prim.Native.Nat.{ℕ, ◌<◌}
-use mathlib.Core.Path.{◌≡◌, refl, sym, ap, ◌∙◌}
+use Prim.Native.Nat.{ℕ}
+use mathlib.Core.Path.{◌≡◌, refl}
 use mathlib.Core.Bool.{true, false}
 use mathlib.Core.List.{List}
-use native.Mathlib.Omega.{arith}
-use lib.ListN.{length}
 use Rattle.image.specs.declared.expr.Expr.{Expr}
 use Rattle.image.specs.declared.expr.Expr.TheVariants.{Str, Insens, Range, Ident, PeekSlice, PosPred, NegPred, Seq, Choice, Opt, Rep, RepOnce, RepExact, RepMin, RepMax, RepMinMax, Push, PushLiteral, NodeTag}
-use Rattle.image.specs.Lists.{AllBelow}
-use Rattle.image.specs.Kinds.{parts_of}
-use Rattle.image.specs.Grammar.{Grammar, grammar, expr_at, text_of}
-use Rattle.image.specs.Formed.{TextInside}
-use Rattle.image.specs.Promise.{ExprAt}
+use Rattle.image.specs.Grammar.{Grammar, text_of}
 use Rattle.asking.specs.Modifies.{Looked, looked, or_else, name_modifies, expr_modifies}
 use Rattle.reading.specs.declared.looks.Look.{Look}
 use Rattle.reading.specs.declared.looks.Look.TheVariants.{Keeps, Changes, Named, One, Two}
-use Rattle.reading.specs.Names.{name_word, word_of, WordAt}
-use Rattle.reading.specs.Looks.{look_of, LookBelow}
-use Rattle.reading.specs.Promise.{LookAt}
+use Rattle.reading.specs.Names.{name_word, word_of}
+use Rattle.reading.specs.Looks.{look_of}
 
 -- the word, by what is looked at
 abbrev pub look_word : Grammar → Look → ℕ
@@ -47,14 +40,6 @@ word-by-look g (RepMinMax part least most) = refl
 word-by-look g (Push part) = refl
 word-by-look g (PushLiteral at len) = refl
 word-by-look g (NodeTag part) = refl
-
--- a node's word, by what is looked at
-pub word-at-look : (g : Grammar) (n w : ℕ) (k : Look) → n < length g.nodes → look_of (expr_at g n) ≡ k → w ≡ look_word g k → WordAt g n w
-word-at-look g n w k h q e =
-    record {
-      node = λ l. e ∙ sym (word-by-look g (expr_at g n) ∙ ap (look_word g) q);
-      rest = λ l. absurd (omega arith);
-    }
 
 -- a name that is looked at is an Ident's
 pub ident-of-look : (e : Expr) (a l : ℕ) → look_of e ≡ Named a l → e ≡ Ident a l
@@ -109,13 +94,3 @@ expr-by-look g rule node (RepMinMax part least most) seen = refl
 expr-by-look g rule node (Push part) seen = refl
 expr-by-look g rule node (PushLiteral at len) seen = refl
 expr-by-look g rule node (NodeTag part) seen = refl
-
--- a node by its expression
-pub look-by :
-    (s : List ℕ) (n : ℕ) (e d : Expr) (r : Look) → ExprAt s n e → e ≡ d → look_of d ≡ r →
-    (AllBelow n (parts_of d) → TextInside (length (grammar s).text) d → LookBelow (length (grammar s).text) n r) → LookAt s n r
-look-by s n e d r h q l b =
-    record {
-      is = ap look_of (sym h.is ∙ q) ∙ l;
-      below = b (rw q at h.below) (rw q at h.text);
-    }

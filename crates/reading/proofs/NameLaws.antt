@@ -1,4 +1,5 @@
 -- Laws of names: a name's number against the tests of the definition, and what the word of an Ident tells. Assumes nothing.
+use Rattle.std.specs.Prelude.{Option, Some, None}
 use Prim.Native.Nat.{ℕ, ◌+◌, ◌-◌, ◌*◌, ◌/◌, ◌%◌, ◌≤◌, ◌<◌}
 use mathlib.Core.Path.{◌≡◌, refl, sym, ap, subst, ◌∙◌}
 use mathlib.Core.Bool.{Bool, true, false, cond, ◌||◌}
@@ -11,17 +12,21 @@ use lib.ListN.{length, get_or, set}
 use lib.Seq.{get_or-set_same, get_or-set_other, ext_get_or}
 use borrow.Author.Tests.{eq-eqb, ne_eqb, ltb-true, ltb-false}
 use Rattle.image.specs.declared.expr.Expr.TheVariants.{Ident}
-use Rattle.image.specs.declared.access.Found.{Found}
-use Rattle.image.specs.declared.access.Found.TheVariants.{At, Nothing}
 use Rattle.image.specs.Lists.{same}
 use Rattle.image.specs.Grammar.{Grammar, grammar, expr_at, text_of, find_rule, Says}
+use Rattle.image.specs.Refusal.{refusal}
 use Rattle.image.specs.Formed.{Formed}
 use Rattle.image.proofs.ListLaws.{same-is}
 use Rattle.image.proofs.FindLaws.{says}
+use Rattle.image.proofs.GrammarLaws.{formed}
 use Rattle.asking.specs.Reading.{PEEK, PEEK-ALL, POP, POP-ALL, DROP, found_kind, name_kind, kind_of, kind_at}
 use Rattle.machine.specs.Kind as K
-use Rattle.reading.specs.Names.{builtin_number, found_number, name_word, word_of, WordAt, Resolved, found_in, FoundBelow}
-use Rattle.reading.specs.Promise.{Ready, RuleAt}
+use Rattle.std.specs.Option.{SomeIff, MatchOption}
+use Rattle.reading.specs.declared.names.StackName.TheVariants as B
+use Rattle.reading.specs.declared.names.Name.TheVariants.{Stack}
+use Rattle.reading.specs.declared.names.StackName.{StackName}
+use Rattle.reading.specs.Names.{changes, builtin_number, number_of, found_number, name_word, word_of, WordAt, Resolved, found_in, FoundBelow, name_is}
+use Rattle.reading.specs.Promise.{RuleAt}
 
 -- what a number of a built-in stack name stands for, or else what a rule's name is
 abbrev pub builtin_kind : ℕ → K.Kind → K.Kind
@@ -87,37 +92,51 @@ changes-by-number name = go (same name PEEK) refl (same name PEEK-ALL) refl (sam
     go false p false q false r false s true t = rw (same-is name DROP t)
     go false p false q false r false s false t = rw (p, q, r, s, t)
 
+-- so a built-in name tells it, by its number
+pub changes-by-name :
+    (name : List ℕ) (b : Option StackName) (r : Bool) → number_of b ≡ builtin_number name → MatchOption b (r ≡ false) (λ x. r ≡ changes x) →
+    (same name POP || same name DROP || same name POP-ALL) ≡ r
+changes-by-name name b r q h = changes-by-number name ∙ rw (← q) (go b h)
+  where
+    go : (b : Option StackName) → MatchOption b (r ≡ false) (λ x. r ≡ changes x) → (eqb (number_of b) 3 || eqb (number_of b) 5 || eqb (number_of b) 4) ≡ r
+    go None h = sym h
+    go (Some B.Peek) h = sym h
+    go (Some B.PeekAll) h = sym h
+    go (Some B.Pop) h = sym h
+    go (Some B.PopAll) h = sym h
+    go (Some B.Drop) h = sym h
+
 -- what is found is a rule
-found-is-rule : (g : Grammar) (name : List ℕ) (f : Found) → Says g name f → FoundBelow (length g.rules) f
-found-is-rule g name (At i) h = h.0
-found-is-rule g name Nothing h = tt
+found-is-rule : (g : Grammar) (name : List ℕ) (f : Option ℕ) → Says g name f → FoundBelow (length g.rules) f
+found-is-rule g name (Some i) h = h.0
+found-is-rule g name None h = tt
 
 pub found_below : (g : Grammar) (name : List ℕ) → FoundBelow (length g.rules) (find_rule g name)
 found_below g name = found-is-rule g name (find_rule g name) (says g name)
 
-found-fewer : (m n : ℕ) (f : Found) → m ≤ n → FoundBelow m f → FoundBelow n f
-found-fewer m n (At i) l h = omega arith
-found-fewer m n Nothing l h = tt
+found-fewer : (m n : ℕ) (f : Option ℕ) → m ≤ n → FoundBelow m f → FoundBelow n f
+found-fewer m n (Some i) l h = omega arith
+found-fewer m n None l h = tt
 
 -- there are at most 256 rules
 pub found-few : (g : Grammar) (name : List ℕ) → Formed g → FoundBelow 256 (find_rule g name)
 found-few g name f = found-fewer (length g.rules) 256 (find_rule g name) f.few-rules (found_below g name)
 
-number-few : (f : Found) → FoundBelow 256 f → found_number f < 512
-number-few (At i) h = omega arith
-number-few Nothing h = omega arith
+number-few : (f : Option ℕ) → FoundBelow 256 f → found_number f < 512
+number-few (Some i) h = omega arith
+number-few None h = omega arith
 
 pub found-number-few : (g : Grammar) (name : List ℕ) → Formed g → found_number (find_rule g name) < 512
 found-number-few g name f = number-few (find_rule g name) (found-few g name f)
 
 -- a word tells the rule that was put into it
-found-again : (f : Found) (w : ℕ) → w % 512 ≡ found_number f → found_in w ≡ f
-found-again (At i) w e =
+found-again : (f : Option ℕ) (w : ℕ) → w % 512 ≡ found_number f → found_in w ≡ f
+found-again (Some i) w e =
     let h : w % 512 ≡ i + 1 = e in
     let n : (w % 512 ≡ 0 → ⊥) = λ z. omega arith in
     let m : w % 512 - 1 ≡ i = omega arith in
     rw (ne_eqb (w % 512) 0 n, m)
-found-again Nothing w e = rw (eq-eqb (w % 512) 0 e)
+found-again None w e = rw (eq-eqb (w % 512) 0 e)
 
 -- an Ident of a grammar, where its names are resolved
 module _ (g : Grammar) (f : Formed g) (names : List ℕ) (r : Resolved g names) (n at len : ℕ) (h : n < length g.nodes) (e : expr_at g n ≡ Ident at len) where
@@ -136,34 +155,62 @@ module _ (g : Grammar) (f : Formed g) (names : List ℕ) (r : Resolved g names) 
   rule-of-word =
       found-again (find_rule g (text_of g at len)) (get_or names n 0) (omega (arith, word_sum, found-number-few g (text_of g at len) f))
 
--- an Ident of an accepted image
-module _ (s names : List ℕ) (n at len : ℕ) (p : Ready s names) (h : n < length (grammar s).nodes) (e : expr_at (grammar s) n ≡ Ident at len) where
+-- the rule that a word tells is the rule that an Ident names
+pub rule_told : (names : List ℕ) (n : ℕ) (r : Option ℕ) → SomeIff r (1 ≤ get_or names n 0 % 512) (get_or names n 0 % 512 - 1) → RuleAt names n r
+rule_told names n r h = let is = go r h in record { is = is; finds = λ g f q at len l e. is ∙ rule-of-word g f names q n at len l e }
+  where
+    go : (r : Option ℕ) → SomeIff r (1 ≤ get_or names n 0 % 512) (get_or names n 0 % 512 - 1) → r ≡ found_in (get_or names n 0)
+    go (Some i) h = rw (ne_eqb (get_or names n 0 % 512) 0 (λ z. omega arith), h.1)
+    go None h = rw (eq-eqb (get_or names n 0 % 512) 0 (omega (arith, h)))
+
+-- an Ident of an image that is not refused
+module _ (s names : List ℕ) (n at len : ℕ) (none : refusal s ≡ 0) (p : Resolved (grammar s) names) (h : n < length (grammar s).nodes) (e : expr_at (grammar s) n ≡ Ident at len) where
   abbrev name : List ℕ
   name = text_of (grammar s) at len
 
   pub builtin-at : get_or names n 0 / 512 ≡ builtin_number name
-  builtin-at = builtin-of-word (grammar s) p.accepted.formed names p.resolved n at len h e
+  builtin-at = builtin-of-word (grammar s) (formed s none) names p n at len h e
 
   -- the rule read is the rule of its name
-  pub rule-read : (r : Found) → RuleAt names n r → r ≡ find_rule (grammar s) name
-  rule-read r q = q.finds (grammar s) p.accepted.formed p.resolved at len h e
+  pub rule-read : (r : Option ℕ) → RuleAt names n r → r ≡ find_rule (grammar s) name
+  rule-read r q = q.finds (grammar s) (formed s none) p at len h e
 
-  pub rule-read-below : (r : Found) → RuleAt names n r → FoundBelow (length (grammar s).rules) r
+  pub rule-read-below : (r : Option ℕ) → RuleAt names n r → FoundBelow (length (grammar s).rules) r
   rule-read-below r q = rw (rule-read r q) (found_below (grammar s) name)
 
-  kind-of-word : kind_at (grammar s) n ≡ builtin_kind (get_or names n 0 / 512) (found_kind (grammar s) (find_rule (grammar s) name))
-  kind-of-word = ident-kind (grammar s) n at len e ∙ rw builtin-at (kind-by-number (grammar s) name)
+  -- what it is, by its built-in name, or else by its rule
+  module _ (b : Option StackName) (told : get_or names n 0 / 512 ≤ 5 → number_of b ≡ get_or names n 0 / 512) where
+    pub number-told : number_of b ≡ builtin_number name
+    number-told = let few : get_or names n 0 / 512 ≤ 5 = omega (arith, builtin-at, builtin-few name) in told few ∙ builtin-at
 
-  -- what it is, by the number of its built-in name, or else by its rule
-  pub kind-is-builtin : (b : ℕ) → get_or names n 0 / 512 ≡ b → kind_at (grammar s) n ≡ builtin_kind b (found_kind (grammar s) (find_rule (grammar s) name))
-  kind-is-builtin b q = kind-of-word ∙ ap (λ (c : ℕ). builtin_kind c (found_kind (grammar s) (find_rule (grammar s) name))) q
+    pub kind-told : (t : Option StackName) → b ≡ t → kind_at (grammar s) n ≡ builtin_kind (number_of t) (found_kind (grammar s) (find_rule (grammar s) name))
+    kind-told t q = ident-kind (grammar s) n at len e ∙ (kind-by-number (grammar s) name ∙ ap (λ (c : ℕ). builtin_kind c (found_kind (grammar s) (find_rule (grammar s) name))) (sym number-told ∙ ap number_of q))
 
-  pub kind-is-found :
-      (r : Found) → RuleAt names n r → (get_or names n 0 / 512 ≡ 1 → ⊥) → (get_or names n 0 / 512 ≡ 2 → ⊥) → (get_or names n 0 / 512 ≡ 3 → ⊥) →
-      (get_or names n 0 / 512 ≡ 4 → ⊥) → (get_or names n 0 / 512 ≡ 5 → ⊥) → found_kind (grammar s) r ≡ kind_at (grammar s) n
-  kind-is-found r q a b c d f =
-      ap (found_kind (grammar s)) (rule-read r q)
-      ∙ sym (kind-of-word ∙ rw (ne_eqb _ 1 a, ne_eqb _ 2 b, ne_eqb _ 3 c, ne_eqb _ 4 d, ne_eqb _ 5 f))
+    pub kind-found : (r : Option ℕ) → RuleAt names n r → b ≡ None → found_kind (grammar s) r ≡ kind_at (grammar s) n
+    kind-found r q o = ap (found_kind (grammar s)) (rule-read r q) ∙ sym (kind-told None o)
+
+-- a built-in name is what its number tells
+pub is-builtin : (rule : K.Kind) (b : StackName) → name_is (Stack b) ≡ builtin_kind (number_of (Some b)) rule
+is-builtin rule B.Peek = refl
+is-builtin rule B.PeekAll = refl
+is-builtin rule B.Pop = refl
+is-builtin rule B.PopAll = refl
+is-builtin rule B.Drop = refl
+
+-- the number settles the built-in name
+pub number-one : (x y : Option StackName) → number_of x ≡ number_of y → x ≡ y
+number-one x y e = sym (again x) ∙ (ap name_at e ∙ again y)
+  where
+    name_at : ℕ → Option StackName
+    name_at b = cond (eqb b 1) (Some B.Peek) (cond (eqb b 2) (Some B.PeekAll) (cond (eqb b 3) (Some B.Pop) (cond (eqb b 4) (Some B.PopAll) (cond (eqb b 5) (Some B.Drop) None))))
+
+    again : (x : Option StackName) → name_at (number_of x) ≡ x
+    again None = refl
+    again (Some B.Peek) = refl
+    again (Some B.PeekAll) = refl
+    again (Some B.Pop) = refl
+    again (Some B.PopAll) = refl
+    again (Some B.Drop) = refl
 
 -- one word more is settled
 pub words_more :

@@ -9,11 +9,12 @@ use Rattle.image.proofs.Unique.{Unique}
 use Rattle.machine.specs.Kind as K
 use Rattle.reading.specs.declared.names.Name.{Name}
 use Rattle.reading.specs.declared.names.Name.TheVariants as N
+use Rattle.reading.specs.declared.names.StackName.TheVariants as B
 use Rattle.reading.specs.declared.kinds.Kind.{Kind}
 use Rattle.reading.specs.declared.kinds.Kind.TheVariants.{InPlace, Match, Ident, NodeTag, PosPred, NegPred, Opt, Push, PushLiteral, Seq, Choice, Unbounded, Bounded}
 use Rattle.reading.specs.Names.{name_is}
 use Rattle.reading.specs.Kinds.{kind_is, is_name}
-use Rattle.reading.proofs.NameLaws.{resolved-one}
+use Rattle.reading.proofs.NameLaws.{number-one, resolved-one}
 use Rattle.reading.proofs.names.builtin.Kinds as builtin
 use Rattle.reading.proofs.names.builtin.Reads as builtin-promise
 use Rattle.reading.proofs.names.name_word.Kinds as name-word
@@ -34,7 +35,7 @@ use Rattle.reading.proofs.skips.skips_modify.Kinds as skips-modify
 use Rattle.reading.proofs.skips.skips_modify.Reads as skips-modify-promise
 
 pub builtin-unique : Unique 1 builtin.ps builtin.r builtin-promise.Post
-builtin-unique κs a x y s t p q = p ∙ sym q
+builtin-unique κs a x y s t p q = number-one x y (p ∙ sym q)
 
 pub name-word-unique : Unique 2 name-word.ps name-word.r name-word-promise.Post
 name-word-unique κs a x y s t p q = p ∙ sym q
@@ -43,7 +44,7 @@ name-word-unique κs a x y s t p q = p ∙ sym q
 pub resolve-unique :
     (κs : Lfts 2) (a : Dens κs resolve.ps) (x y : (res_t resolve.r κs).Denot) (s t : AtExit (ended_of 2 resolve.ps resolve.r) κs) →
     resolve-promise.Post κs a x s → resolve-promise.Post κs a y t → s.1.0.now ≡ t.1.0.now
-resolve-unique κs a x y s t p q = resolved-one (grammar a.0.now) s.1.0.now t.1.0.now p q
+resolve-unique κs a x y s t p q = resolved-one (grammar a.0.bytes.now) s.1.0.now t.1.0.now p q
 
 pub rule-at-unique : Unique 1 rule-at.ps rule-at.r rule-at-promise.Post
 rule-at-unique κs a x y s t p q = p.is ∙ sym q.is
@@ -52,11 +53,11 @@ rule-at-unique κs a x y s t p q = p.is ∙ sym q.is
 name_from : K.Kind → Name
 name_from K.InPlace = N.Unknown
 name_from K.Match = N.Unknown
-name_from K.Peek = N.Peek
-name_from K.PeekAll = N.PeekAll
-name_from K.Pop = N.Pop
-name_from K.PopAll = N.PopAll
-name_from K.Drop = N.Drop
+name_from K.Peek = N.Stack B.Peek
+name_from K.PeekAll = N.Stack B.PeekAll
+name_from K.Pop = N.Stack B.Pop
+name_from K.PopAll = N.Stack B.PopAll
+name_from K.Drop = N.Stack B.Drop
 name_from (K.Rule root) = N.Rule root
 name_from (K.NodeTag part) = N.Unknown
 name_from (K.PosPred part) = N.Unknown
@@ -71,15 +72,15 @@ name_from (K.Bounded part required optional) = N.Unknown
 
 name-again : (x : Name) → name_from (name_is x) ≡ x
 unfolding name_from
-name-again N.Peek = refl
-name-again N.PeekAll = refl
-name-again N.Pop = refl
-name-again N.PopAll = refl
-name-again N.Drop = refl
+name-again (N.Stack B.Peek) = refl
+name-again (N.Stack B.PeekAll) = refl
+name-again (N.Stack B.Pop) = refl
+name-again (N.Stack B.PopAll) = refl
+name-again (N.Stack B.Drop) = refl
 name-again (N.Rule root) = refl
 name-again N.Unknown = refl
 
-pub name-at-unique : Unique 2 name-at.ps name-at.r name-at-promise.Post
+pub name-at-unique : Unique 1 name-at.ps name-at.r name-at-promise.Post
 name-at-unique κs a x y s t p q = sym (name-again x) ∙ (ap name_from (p.is ∙ sym q.is) ∙ name-again y)
 
 -- what a kind is to the stack pass, and whether it is a name, settle the kind
@@ -124,7 +125,7 @@ kind-one : (x y : Kind) → kind_is x ≡ kind_is y → is_name x ≡ is_name y 
 kind-one x y p q =
     sym (kind-again x) ∙ (ap (kind_from (is_name x)) p ∙ (ap (λ (b : Bool). kind_from b (kind_is y)) q ∙ kind-again y))
 
-pub kind-at-unique : Unique 2 kind_at.ps kind_at.r kind-at-promise.Post
+pub kind-at-unique : Unique 1 kind_at.ps kind_at.r kind-at-promise.Post
 kind-at-unique κs a x y s t p q = kind-one x y (p.is ∙ sym q.is) (p.named ∙ sym q.named)
 
 pub held-back-unique : Unique 1 held_back.ps held_back.r held-back-promise.Post
@@ -133,5 +134,5 @@ held-back-unique κs a x y s t p q = p ∙ sym q
 pub skips-unique : Unique 1 skips.ps skips.r skips-promise.Post
 skips-unique κs a x y s t p q = p ∙ sym q
 
-pub skips-modify-unique : Unique 2 skips-modify.ps skips-modify.r skips-modify-promise.Post
+pub skips-modify-unique : Unique 1 skips-modify.ps skips-modify.r skips-modify-promise.Post
 skips-modify-unique κs a x y s t p q = p ∙ sym q

@@ -4,3 +4,4 @@ pub mod Kinds
 pub mod Looks
 pub mod Marks
 pub mod Promise
+pub mod Search

@@ -1,15 +1,15 @@
 -- Names resolved once: the word of each name, what an array of words must hold, and what each case of the enum Name stands for.
-use Rattle.std.specs.Prelude.{ℕ, ◌+◌, ◌-◌, ◌*◌, ◌%◌, ◌≤◌, ◌<◌, ◌≡◌, cond, List, eqb, length, get_or}
+use Rattle.std.specs.Prelude.{Bool, true, false, ℕ, ◌+◌, ◌-◌, ◌*◌, ◌%◌, ◌≤◌, ◌<◌, ◌≡◌, cond, List, eqb, length, get_or, Option, Some, None}
 use Rattle.image.specs.declared.expr.Expr.{Expr}
 use Rattle.image.specs.declared.expr.Expr.TheVariants.{Str, Insens, Range, Ident, PeekSlice, PosPred, NegPred, Seq, Choice, Opt, Rep, RepOnce, RepExact, RepMin, RepMax, RepMinMax, Push, PushLiteral, NodeTag}
-use Rattle.image.specs.declared.access.Found.{Found}
-use Rattle.image.specs.declared.access.Found.TheVariants.{At, Nothing}
 use Rattle.image.specs.Lists.{same}
 use Rattle.image.specs.Grammar.{Grammar, expr_at, text_of, find_rule}
 use Rattle.asking.specs.Reading.{PEEK, PEEK-ALL, POP, POP-ALL, DROP}
 use Rattle.machine.specs.Kind as K
+use Rattle.reading.specs.declared.names.StackName.{StackName}
+use Rattle.reading.specs.declared.names.StackName.TheVariants as B
 use Rattle.reading.specs.declared.names.Name.{Name}
-use Rattle.reading.specs.declared.names.Name.TheVariants.{Peek, PeekAll, Pop, PopAll, Drop, Rule, Unknown}
+use Rattle.reading.specs.declared.names.Name.TheVariants.{Stack, Rule, Unknown}
 
 -- the built-in stack names by number: 1 PEEK, 2 PEEK_ALL, 3 POP, 4 POP_ALL, 5 DROP; any other name has 0
 unfoldable pub builtin_number : List ℕ → ℕ
@@ -20,10 +20,27 @@ builtin_number name =
     let from-peek-all : ℕ = cond (same name PEEK-ALL) 2 from-pop in
     cond (same name PEEK) 1 from-peek-all
 
+-- the number of each case of the enum StackName, and of none
+abbrev pub number_of : Option StackName → ℕ
+number_of None = 0
+number_of (Some B.Peek) = 1
+number_of (Some B.PeekAll) = 2
+number_of (Some B.Pop) = 3
+number_of (Some B.PopAll) = 4
+number_of (Some B.Drop) = 5
+
+-- POP, POP_ALL and DROP change the stack
+abbrev pub changes : StackName → Bool
+changes B.Peek = false
+changes B.PeekAll = false
+changes B.Pop = true
+changes B.PopAll = true
+changes B.Drop = true
+
 -- one more than the number of a rule, 0 for none
-abbrev pub found_number : Found → ℕ
-found_number (At i) = i + 1
-found_number Nothing = 0
+abbrev pub found_number : Option ℕ → ℕ
+found_number (Some i) = i + 1
+found_number None = 0
 
 -- the word of a name: built-in × 512 + rule
 unfoldable pub name_word : Grammar → List ℕ → ℕ
@@ -62,30 +79,26 @@ pub record Resolved (g : Grammar) (names : List ℕ) : Type 0 where
   pub each : (n : ℕ) → n < 2048 → WordAt g n (get_or names n 0)
 
 -- the rule that a word tells
-abbrev pub found_in : ℕ → Found
-found_in word = cond (eqb (word % 512) 0) Nothing (At (word % 512 - 1))
+abbrev pub found_in : ℕ → Option ℕ
+found_in word = cond (eqb (word % 512) 0) None (Some (word % 512 - 1))
 
 -- a rule that was found has a number below a bound
-abbrev pub FoundBelow : ℕ → Found → Type 0
-FoundBelow count (At i) = i < count
-FoundBelow count Nothing = Unit {0}
+abbrev pub FoundBelow : ℕ → Option ℕ → Type 0
+FoundBelow count (Some i) = i < count
+FoundBelow count None = Unit {0}
 
 -- what each case of the enum Name is to the stack pass; a rule's name is its root
 abbrev pub name_is : Name → K.Kind
-name_is Peek = K.Peek
-name_is PeekAll = K.PeekAll
-name_is Pop = K.Pop
-name_is PopAll = K.PopAll
-name_is Drop = K.Drop
+name_is (Stack B.Peek) = K.Peek
+name_is (Stack B.PeekAll) = K.PeekAll
+name_is (Stack B.Pop) = K.Pop
+name_is (Stack B.PopAll) = K.PopAll
+name_is (Stack B.Drop) = K.Drop
 name_is (Rule root) = K.Rule root
 name_is Unknown = K.Match
 
 -- a rule's root is below the node count
 abbrev pub NameBelow : ℕ → Name → Type 0
-NameBelow count Peek = Unit {0}
-NameBelow count PeekAll = Unit {0}
-NameBelow count Pop = Unit {0}
-NameBelow count PopAll = Unit {0}
-NameBelow count Drop = Unit {0}
+NameBelow count (Stack name) = Unit {0}
 NameBelow count (Rule root) = root < count
 NameBelow count Unknown = Unit {0}

@@ -1,45 +1,22 @@
 -- What the functions of this crate ask of their arguments, and what they promise of their results.
-use Rattle.std.specs.Prelude.{ℕ, ◌<◌, ◌≡◌, false, ◌&&◌, not, List, eqb, length, get_or}
+use Rattle.std.specs.Prelude.{ℕ, ◌<◌, ◌≡◌, false, ◌&&◌, not, List, eqb, length, get_or, Option}
 use Rattle.image.specs.declared.expr.Expr.TheVariants.{Ident}
-use Rattle.image.specs.declared.access.Found.{Found}
 use Rattle.image.specs.Grammar.{Grammar, grammar, expr_at, text_of, find_rule}
 use Rattle.image.specs.Formed.{Formed}
-use Rattle.image.specs.Accepted.{Accepted}
 use Rattle.asking.specs.Reading.{found_kind, text_kind, slice_kind, bounded_kind, kind_at}
 use Rattle.reading.specs.declared.names.Name.{Name}
 use Rattle.reading.specs.declared.kinds.Kind.{Kind}
 use Rattle.reading.specs.declared.looks.Look.{Look}
-use Rattle.reading.specs.Names.{Resolved, FoundBelow, found_in, name_is, NameBelow}
+use Rattle.reading.specs.Names.{Resolved, found_in, name_is, NameBelow}
 use Rattle.reading.specs.Kinds.{read_as_name, Reads}
 use Rattle.reading.specs.Looks.{look_of, LookBelow}
 
--- an accepted image, and an array for its names
-pub record ToResolve (s names : List ℕ) : Type 0 where
-  pub accepted : Accepted s
-  pub long : length names ≡ 2048
-
--- an accepted image, and its names resolved
-pub record Ready (s names : List ℕ) : Type 0 where
-  pub accepted : Accepted s
-  pub resolved : Resolved (grammar s) names
-
--- and a node of it
-pub record ReadyAt (s names : List ℕ) (n : ℕ) : Type 0 where
-  pub ready : Ready s names
-  pub node : n < length (grammar s).nodes
-
--- and that node an Ident
-pub record AtIdent (s names : List ℕ) (n : ℕ) : Type 0 where
-  pub ready : Ready s names
+-- node n is an Ident
+pub record AtIdent (s : List ℕ) (n : ℕ) : Type 0 where
   pub node : n < length (grammar s).nodes
   pub at : ℕ
   pub len : ℕ
   pub ident : expr_at (grammar s) n ≡ Ident at len
-
--- what was found is a rule of an accepted image, or nothing
-pub record AtFound (s : List ℕ) (found : Found) : Type 0 where
-  pub accepted : Accepted s
-  pub rule : FoundBelow (length (grammar s).rules) found
 
 -- what is looked at in node n
 pub record LookAt (s : List ℕ) (n : ℕ) (r : Look) : Type 0 where
@@ -47,14 +24,14 @@ pub record LookAt (s : List ℕ) (n : ℕ) (r : Look) : Type 0 where
   pub below : LookBelow (length (grammar s).text) n r
 
 -- the rule that the word of n tells; it is the rule that an Ident names, in every grammar whose names these are
-pub record RuleAt (names : List ℕ) (n : ℕ) (r : Found) : Type 0 where
+pub record RuleAt (names : List ℕ) (n : ℕ) (r : Option ℕ) : Type 0 where
   pub is : r ≡ found_in (get_or names n 0)
   pub finds :
       (g : Grammar) → Formed g → Resolved g names → (at len : ℕ) → n < length g.nodes → expr_at g n ≡ Ident at len →
       r ≡ find_rule g (text_of g at len)
 
 -- what a name is that is not built in
-pub record NameFound (s : List ℕ) (found : Found) (r : Name) : Type 0 where
+pub record NameFound (s : List ℕ) (found : Option ℕ) (r : Name) : Type 0 where
   pub is : name_is r ≡ found_kind (grammar s) found
   pub below : NameBelow (length (grammar s).nodes) r
 
@@ -77,28 +54,3 @@ SliceRead start ends end r =
 
 abbrev pub BoundsRead : ℕ → ℕ → ℕ → Kind → Type 0
 BoundsRead part least most r = (count n : ℕ) → part < n → Reads (bounded_kind part least most) false count n r
-
--- a search for changes of the stack, with marks for the rules seen
-pub record Looking (s names marks : List ℕ) : Type 0 where
-  pub ready : Ready s names
-  pub long : length marks ≡ 256
-
--- at what was found
-pub record LookingFound (s names marks : List ℕ) (found : Found) : Type 0 where
-  pub looking : Looking s names marks
-  pub rule : FoundBelow (length (grammar s).rules) found
-
--- at a rule
-pub record LookingRule (s names marks : List ℕ) (i : ℕ) : Type 0 where
-  pub looking : Looking s names marks
-  pub rule : i < length (grammar s).rules
-
--- at an Ident
-pub record LookingName (s names marks : List ℕ) (n : ℕ) : Type 0 where
-  pub looking : Looking s names marks
-  pub name : AtIdent s names n
-
--- at a node
-pub record LookingNode (s names marks : List ℕ) (n : ℕ) : Type 0 where
-  pub looking : Looking s names marks
-  pub node : n < length (grammar s).nodes

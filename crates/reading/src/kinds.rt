@@ -1,12 +1,12 @@
 // Kinds: what a node is to the stack pass, with its name, slice and bounds read.
 ghost use Rattle.std.specs.Prelude.{◌≡◌};
 ghost use Rattle.image.specs.Grammar.{grammar};
-ghost use Rattle.image.specs.Promise.{AtNode};
+ghost use Rattle.image.specs.Promise.{IsNode};
 ghost use Rattle.asking.specs.Reading.{held_back};
-ghost use Rattle.reading.specs.Promise.{ReadyAt, TextRead, SliceRead, BoundsRead, KindAt};
+ghost use Rattle.reading.specs.Promise.{TextRead, SliceRead, BoundsRead, KindAt};
 
-use crate::names::{Name, name_at};
-use image::access::{bits_at, expr_at};
+use crate::names::{Name, Names, StackName, name_at};
+use image::Image;
 use image::expr::Expr;
 
 #[derive(Clone, Copy)]
@@ -49,37 +49,30 @@ fn text_kind(len: usize) -> Kind
 fn slice_kind(start: usize, ends: usize, end: usize) -> Kind
     ensures { SliceRead start ends end result }
 {
-    if start != 0 {
-        return Kind::Match;
+    match (start, ends, end) {
+        (0, 0, _) => Kind::Ident(Name::Stack(StackName::PeekAll)),
+        (0, _, 0) => Kind::InPlace,
+        _ => Kind::Match,
     }
-    if ends == 0 {
-        return Kind::Ident(Name::PeekAll);
-    }
-    if end == 0 { Kind::InPlace } else { Kind::Match }
 }
 
 // RepMinMax: where min is above max, max copies are required and none is optional.
 fn bounded_kind(part: usize, least: usize, most: usize) -> Kind
     ensures { BoundsRead part least most result }
 {
-    if least <= most {
-        Kind::Bounded(part, least, most - least)
-    } else {
-        Kind::Bounded(part, most, 0)
-    }
+    Kind::Bounded(part, least.min(most), most.saturating_sub(least))
 }
 
 // What a node is.
-pub fn kind_at(image: &[u8], names: &[u16; 2048], n: usize) -> Kind
-    requires { ReadyAt image.now names.now n }
-    ensures { KindAt image.now n result }
+#[tactic(auto, unfolding(asking::specs::Reading::kind_of))]
+pub fn kind_at(names: Names, n: usize) -> Kind
+    requires { IsNode names.image.bytes.now n }
+    ensures { KindAt names.entry.image.bytes.now n result }
 {
-    let expr = expr_at(image, n);
-    match expr {
-        Expr::Str(_, len) => text_kind(len),
-        Expr::Insens(_, len) => text_kind(len),
+    match names.image.expr_at(n) {
+        Expr::Str(_, len) | Expr::Insens(_, len) => text_kind(len),
         Expr::Range => Kind::Match,
-        Expr::Ident(_, _) => Kind::Ident(name_at(image, names, n)),
+        Expr::Ident(_, _) => Kind::Ident(name_at(names, n)),
         Expr::PeekSlice(start, ends, end) => slice_kind(start, ends, end),
         Expr::PosPred(part) => Kind::PosPred(part),
         Expr::NegPred(part) => Kind::NegPred(part),
@@ -99,13 +92,10 @@ pub fn kind_at(image: &[u8], names: &[u16; 2048], n: usize) -> Kind
 }
 
 // A report is held back if the body has bit 1 or 2.
-pub fn held_back(image: &[u8], part: usize) -> bool
-    requires { AtNode image.now part }
-    ensures { result ≡ held_back (grammar image.now) part }
+#[tactic(auto, using(crate::proofs::KindLaws::held_bits), unfolding(asking::specs::Reading::held_back))]
+pub fn held_back(image: Image, part: usize) -> bool
+    requires { IsNode image.bytes.now part }
+    ensures { result ≡ held_back (grammar image.entry.bytes.now) part }
 {
-    let bits = bits_at(image, part);
-    if bits % 2 == 1 {
-        return true;
-    }
-    bits / 2 % 2 == 1
+    image.bits_at(part) & 3 != 0
 }

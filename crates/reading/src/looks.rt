@@ -1,8 +1,8 @@
 // What `rule_modifies_stack` looks at in a node: the 19 kinds in five cases.
-ghost use Rattle.image.specs.Promise.{AtNode};
+ghost use Rattle.image.specs.Promise.{IsNode};
 ghost use Rattle.reading.specs.Promise.{LookAt};
 
-use image::access::expr_at;
+use image::Image;
 use image::expr::Expr;
 
 #[derive(Clone, Copy)]
@@ -20,30 +20,24 @@ pub enum Look {
 }
 
 // What is looked at in a node.
-pub fn look_at(image: &[u8], n: usize) -> Look
-    requires { AtNode image.now n }
-    ensures { LookAt image.now n result }
+pub fn look_at(image: Image, n: usize) -> Look
+    requires { IsNode image.bytes.now n }
+    ensures { LookAt image.entry.bytes.now n result }
 {
-    let expr = expr_at(image, n);
-    match expr {
-        Expr::Str(_, _) => Look::Keeps,
-        Expr::Insens(_, _) => Look::Keeps,
-        Expr::Range => Look::Keeps,
+    match image.expr_at(n) {
+        Expr::Str(_, _) | Expr::Insens(_, _) | Expr::Range | Expr::PeekSlice(_, _, _) =>
+            Look::Keeps,
+        Expr::PosPred(_) | Expr::NegPred(_) => Look::Keeps,
+        Expr::Push(_) | Expr::PushLiteral(_, _) => Look::Changes,
         Expr::Ident(at, len) => Look::Named(at, len),
-        Expr::PeekSlice(_, _, _) => Look::Keeps,
-        Expr::PosPred(_) => Look::Keeps,
-        Expr::NegPred(_) => Look::Keeps,
-        Expr::Seq(left, right) => Look::Two(left, right),
-        Expr::Choice(left, right) => Look::Two(left, right),
-        Expr::Opt(part) => Look::One(part),
-        Expr::Rep(part) => Look::One(part),
-        Expr::RepOnce(part) => Look::One(part),
-        Expr::RepExact(part, _) => Look::One(part),
-        Expr::RepMin(part, _) => Look::One(part),
-        Expr::RepMax(part, _) => Look::One(part),
-        Expr::RepMinMax(part, _, _) => Look::One(part),
-        Expr::Push(_) => Look::Changes,
-        Expr::PushLiteral(_, _) => Look::Changes,
-        Expr::NodeTag(part) => Look::One(part),
+        Expr::Seq(left, right) | Expr::Choice(left, right) => Look::Two(left, right),
+        Expr::Opt(part)
+        | Expr::Rep(part)
+        | Expr::RepOnce(part)
+        | Expr::RepExact(part, _)
+        | Expr::RepMin(part, _)
+        | Expr::RepMax(part, _)
+        | Expr::RepMinMax(part, _, _)
+        | Expr::NodeTag(part) => Look::One(part),
     }
 }

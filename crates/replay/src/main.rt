@@ -3,447 +3,357 @@
 // spare bytes behind them, and with no byte zero. Standard output gets a line for each of the first ten cases that differ, then the counts.
 #![tactic(auto)]
 
-ghost use Rattle.std.specs.Prelude.{◌<◌, ◌≤◌, IfOk};
-ghost use Rattle.std.specs.Counts.{IsPrefixLen};
+ghost use Rattle.std.specs.Prelude.{◌≡◌, IfOk, vec_len};
 
-use std::io;
-use std::io::Read;
+use std::alloc::{AllocError, Global};
+use std::fmt::Display;
+use std::io::{ErrorKind, Read};
+use std::{fmt, io, iter};
+use thatchnip::thatchnip_check;
 
-// What `next_number` answers where the input ends.
-const ENDED: u64 = 4294967296;
-// Of the counts those of agreeing cases by refusal come first; that of their reports of a reason is at this plus the reason.
-const REASONS: usize = 13;
-// The place of the count of cases that agree.
-const AGREE: usize = 19;
-// The place of the count of cases that differ.
-const DIFFER: usize = 20;
+// An image or a table of so many bytes or more is malformed.
+const IMAGE_END: usize = 65536;
 
-// Writes to standard output.
-fn put(rt: &impl Print, text: &[u8]) -> io::Result<()> {
-    rt.write_all(text)
+const OUTCOMES_END: usize = 1048576;
+
+const WALKED_END: usize = 65536;
+
+const REPORTS_END: usize = 65536;
+// The refusals, and 0 for none.
+const REFUSALS: usize = 14;
+// The reasons, and 0 for none.
+const REASONS: usize = 6;
+// So many cases that differ are told.
+const TOLD: u64 = 10;
+
+// Why the input is not replayed to its end; most faults are those of a case, and have its number.
+#[derive(Drop)]
+enum Fault {
+    Failed(io::Error),
+    NoTotal,
+    EndsBefore(u32),
+    LongImage(u32),
+    EndsInImage(u32),
+    EndsAfterImage(u32),
+    TooManyPlaces(u32),
+    NoSuchAnswer(u32),
+    EndsInReports(u32),
+    GoesOn,
 }
 
-// Writes a number.
-fn put_number(rt: &impl Print, x: u64) -> io::Result<()> {
-    rt.print(x)
-}
-
-// Reads until the buffer is full or the input ends, and answers how many bytes were read.
-fn read_full(from: &mut impl Read, buf: &mut [u8]) -> io::Result<usize>
-    ensures { IfOk result (λ n. IsPrefixLen n buf.new) }
-{
-    let mut done = 0;
-    while done < buf.len() {
-        let got = from.read(&mut buf[done..])?;
-        if got == 0 {
-            return Ok(done);
-        }
-        done += got;
+impl From<io::Error> for Fault {
+    fn from(error: io::Error) -> Fault {
+        Fault::Failed(error)
     }
-    Ok(done)
 }
 
-// A byte as a number of 64 bits.
-fn wide(x: u8) -> u64
-    ensures { result < 256 }
-{
-    x as u64
+impl From<AllocError> for Fault {
+    fn from(error: AllocError) -> Fault {
+        Fault::Failed(io::Error::from(error))
+    }
 }
 
-// The number of four bytes.
-fn number(b: &[u8; 4]) -> u64
-    ensures { result < 4294967296 }
-{
-    wide(b[3]) * 16777216 + (wide(b[2]) * 65536 + (wide(b[1]) * 256 + wide(b[0])))
+impl Display for Fault {
+    fn fmt<W: fmt::Write>(&self, f: &mut fmt::Formatter<W>) -> fmt::Result {
+        match self {
+            Fault::Failed(error) => write!(f, "{error}"),
+            Fault::NoTotal => write!(f, "the input ends before its number of cases"),
+            Fault::EndsBefore(case) => write!(f, "case {case}: the input ends before it"),
+            Fault::LongImage(case) => write!(f, "case {case}: malformed, too long an image"),
+            Fault::EndsInImage(case) => write!(f, "case {case}: the input ends in its image"),
+            Fault::EndsAfterImage(case) => write!(f, "case {case}: the input ends after its image"),
+            Fault::TooManyPlaces(case) => write!(f, "case {case}: malformed, too many places"),
+            Fault::NoSuchAnswer(case) => write!(f, "case {case}: malformed, no such answer"),
+            Fault::EndsInReports(case) => write!(f, "case {case}: the input ends in its reports"),
+            Fault::GoesOn => write!(f, "the input goes on after its last case"),
+        }
+    }
+}
+
+// The number that the check gives, in its two parts.
+#[derive(Clone, Copy, PartialEq, Eq)]
+struct Answer {
+    refusal: u32,
+    count: u32,
+}
+
+impl From<u64> for Answer {
+    fn from(number: u64) -> Answer {
+        Answer {
+            refusal: (number >> 32) as u32,
+            count: (number & 0xffff_ffff) as u32,
+        }
+    }
+}
+
+impl Display for Answer {
+    fn fmt<W: fmt::Write>(&self, f: &mut fmt::Formatter<W>) -> fmt::Result {
+        write!(f, "refusal {} and count {}", self.refusal, self.count)
+    }
+}
+
+// What a case has between its image and its reports: the places of the tables, and the recorded answer.
+#[derive(Clone, Copy)]
+struct Header {
+    outcomes: u32,
+    walked: u32,
+    reports: u32,
+    recorded: Answer,
+}
+
+// The bytes of the three tables.
+#[derive(Drop)]
+struct Tables {
+    outcomes: Vec<u8>,
+    walked: Vec<u8>,
+    reports: Vec<u8>,
+}
+
+// A case of the input: its number, its image, the tables to lend, and what is recorded: the answer and the bytes of the reports.
+#[derive(Drop)]
+struct Case {
+    number: u32,
+    image: Vec<u8>,
+    tables: Tables,
+    recorded: Answer,
+    reported: Vec<u8>,
+}
+
+// The first place at which a table is not these bytes and then zeros.
+fn other(table: &[u8], bytes: &[u8]) -> Option<usize> {
+    let wanted = bytes.iter().chain(iter::repeat(&0));
+    table.iter().zip(wanted).position(|(a, b)| a != b)
+}
+
+impl Case {
+    // The check's own answer.
+    fn ask(&mut self) -> Answer {
+        Answer::from(thatchnip_check(
+            &self.image,
+            &mut self.tables.outcomes,
+            &mut self.tables.walked,
+            &mut self.tables.reports,
+        ))
+    }
+
+    // The tables by name, each with the bytes that it is to begin with; zeros are to follow.
+    fn compared(&self) -> [(&str, &[u8], &[u8]); 3] {
+        [
+            ("outcome", &self.tables.outcomes, b""),
+            ("walked", &self.tables.walked, b""),
+            ("report", &self.tables.reports, &self.reported),
+        ]
+    }
+
+    // Whether the answer is the recorded one, the work tables are zero and the report table has the recorded reports and then zeros.
+    fn agrees(&self, answer: Answer) -> bool {
+        answer == self.recorded
+            && self
+                .compared()
+                .iter()
+                .all(|(_, table, bytes)| other(table, bytes).is_none())
+    }
+}
+
+// How an answer differs from the case's.
+#[derive(Drop)]
+struct Difference<'a> {
+    case: &'a Case,
+    answer: Answer,
+}
+
+impl<'a> Display for Difference<'a> {
+    fn fmt<W: fmt::Write>(&self, f: &mut fmt::Formatter<W>) -> fmt::Result {
+        let case = self.case;
+        write!(
+            f,
+            "case {}: {}, recorded {}",
+            case.number, self.answer, case.recorded
+        )?;
+        for (name, table, bytes) in case.compared() {
+            if let Some(at) = other(table, bytes) {
+                write!(f, "; {name} table differs at byte {at}")?;
+            }
+        }
+        Ok(())
+    }
+}
+
+// The counts.
+#[derive(Default, Drop)]
+struct Tally {
+    agree: u64,
+    differ: u64,
+    // Of the cases that agree, those of each refusal.
+    refusals: [u64; REFUSALS],
+    // Of their reports, those of each reason.
+    reasons: [u64; REASONS],
+}
+
+// Adds one to the count at a place.
+fn bump(counts: &mut [u64], i: usize) {
+    if let Some(count) = counts.get_mut(i) {
+        *count = count.wrapping_add(1);
+    }
+}
+
+impl Tally {
+    // Counts a case that agrees, and its reports.
+    fn count(&mut self, case: &Case) {
+        self.agree = self.agree.wrapping_add(1);
+        bump(&mut self.refusals, case.recorded.refusal as usize);
+        let (reports, _) = case.reported.as_chunks::<8>();
+        for report in reports {
+            bump(&mut self.reasons, report[4] as usize);
+        }
+    }
+}
+
+impl Display for Tally {
+    fn fmt<W: fmt::Write>(&self, f: &mut fmt::Formatter<W>) -> fmt::Result {
+        let cases = self.agree.wrapping_add(self.differ);
+        writeln!(f, "{cases} cases, {} agree", self.agree)?;
+        for (refusal, count) in self.refusals.iter().enumerate() {
+            writeln!(f, "refusal {refusal}: {count}")?;
+        }
+        for (reason, count) in self.reasons.iter().enumerate().skip(1) {
+            writeln!(f, "reports of reason {reason}: {count}")?;
+        }
+        Ok(())
+    }
+}
+
+// Fills the bytes from the input. Where it ends first, the fault is `ended`.
+fn fill(from: &mut impl Read, bytes: &mut [u8], ended: Fault) -> Result<(), Fault> {
+    from.read_exact(bytes).map_err(|error| {
+        if error.kind() == ErrorKind::UnexpectedEof {
+            ended
+        } else {
+            Fault::Failed(error)
+        }
+    })
 }
 
 // The next number of the input.
-fn next_number(from: &mut impl Read) -> io::Result<u64>
-    ensures { IfOk result (λ n. n ≤ 4294967296) }
-{
+fn next_number(from: &mut impl Read, ended: Fault) -> Result<u32, Fault> {
     let mut bytes = [0u8; 4];
-    if read_full(from, &mut bytes)? < 4 {
-        return Ok(ENDED);
-    }
-    Ok(number(&bytes))
+    fill(from, &mut bytes, ended)?;
+    Ok(u32::from_le_bytes(bytes))
 }
 
-// Adds one to a count.
-fn bump(tally: &mut [u64; 21], i: usize) {
-    if i < 21 {
-        tally[i] = tally[i].wrapping_add(1);
-    }
+// The next n bytes of the input.
+fn next_bytes(alloc: Global, from: &mut impl Read, n: usize, ended: Fault) -> Result<Vec<u8>, Fault>
+    ensures { IfOk result (λ v. vec_len v ≡ n) }
+{
+    let mut bytes = vec![in alloc; 0u8; n]?;
+    fill(from, &mut bytes, ended)?;
+    Ok(bytes)
 }
 
-// Fills a table with bytes that are not zero.
-fn soil(table: &mut [u8]) {
-    let mut i = 0;
-    while i < table.len() {
-        table[i] = (i % 255) as u8 + 1;
-        i += 1;
+// A table of n bytes, none of them zero.
+fn soiled(alloc: Global, n: usize) -> Result<Vec<u8>, AllocError>
+    ensures { IfOk result (λ v. vec_len v ≡ n) }
+{
+    let mut table = vec![in alloc; 0u8; n]?;
+    for (i, byte) in table.iter_mut().enumerate() {
+        *byte = (i % 255) as u8 + 1;
     }
+    Ok(table)
 }
 
-// The byte at i, or zero past the end.
-fn byte_at(bytes: &[u8], i: usize) -> u8 {
-    if i < bytes.len() { bytes[i] } else { 0 }
+// The image of the next case.
+fn next_image(alloc: Global, from: &mut impl Read, case: u32) -> Result<Vec<u8>, Fault> {
+    let length = next_number(from, Fault::EndsBefore(case))? as usize;
+    if IMAGE_END <= length {
+        return Err(Fault::LongImage(case));
+    }
+    next_bytes(alloc, from, length, Fault::EndsInImage(case))
 }
 
-// The first place at which a table is not these bytes and then zeros, or its length.
-fn other(table: &[u8], bytes: &[u8]) -> usize {
-    let mut i = 0;
-    while i < table.len() {
-        if table[i] != byte_at(bytes, i) {
-            return i;
-        }
-        i += 1;
-    }
-    i
+// The numbers that follow the image of a case.
+fn next_header(from: &mut impl Read, case: u32) -> Result<Header, Fault> {
+    let mut next = || next_number(from, Fault::EndsAfterImage(case));
+    Ok(Header {
+        outcomes: next()?,
+        walked: next()?,
+        reports: next()?,
+        recorded: Answer {
+            refusal: next()?,
+            count: next()?,
+        },
+    })
 }
 
-// Writes where a table is not these bytes and then zeros.
-fn tell_table(rt: &impl Print, name: &[u8], table: &[u8], bytes: &[u8]) -> io::Result<()> {
-    let at = other(table, bytes);
-    if at < table.len() {
-        put(rt, name)?;
-        put(rt, b" table differs at byte ")?;
-        put_number(rt, at as u64)?;
+// The next case of the input.
+fn next_case(alloc: Global, from: &mut impl Read, number: u32) -> Result<Case, Fault> {
+    let image = next_image(alloc, from, number)?;
+    let header = next_header(from, number)?;
+    let case = number as usize;
+    let outcomes = header.outcomes as usize * 8 + case % 8;
+    let walked = header.walked as usize * 4 + case % 4;
+    let reports = header.reports as usize * 8 + case / 8 % 8;
+    if OUTCOMES_END <= outcomes || WALKED_END <= walked || REPORTS_END <= reports {
+        return Err(Fault::TooManyPlaces(number));
     }
-    Ok(())
-}
-
-// Writes a result in words.
-fn tell_result(rt: &impl Print, res: u64) -> io::Result<()> {
-    put(rt, b"refusal ")?;
-    put_number(rt, res / 4294967296)?;
-    put(rt, b" and count ")?;
-    put_number(rt, res % 4294967296)
-}
-
-// Writes how a case differs.
-fn tell(
-    rt: &impl Print,
-    case: u64,
-    res: u64,
-    recorded: u64,
-    outcomes: &[u8],
-    walked: &[u8],
-    reports: &[u8],
-    wanted: &[u8],
-) -> io::Result<()> {
-    put(rt, b"case ")?;
-    put_number(rt, case)?;
-    put(rt, b": ")?;
-    tell_result(rt, res)?;
-    put(rt, b", recorded ")?;
-    tell_result(rt, recorded)?;
-    tell_table(rt, b"; outcome", outcomes, b"")?;
-    tell_table(rt, b"; walked", walked, b"")?;
-    tell_table(rt, b"; report", reports, wanted)?;
-    put(rt, b"\n")
-}
-
-// Whether the result is the recorded one, the work tables are zero and the report table has the recorded reports and then zeros.
-fn agrees(
-    res: u64,
-    recorded: u64,
-    outcomes: &[u8],
-    walked: &[u8],
-    reports: &[u8],
-    wanted: &[u8],
-) -> bool {
-    if res != recorded {
-        return false;
+    let recorded = header.recorded;
+    let length = recorded.count as usize * 8;
+    if REFUSALS <= recorded.refusal as usize || reports < length {
+        return Err(Fault::NoSuchAnswer(number));
     }
-    if other(outcomes, b"") < outcomes.len() {
-        return false;
-    }
-    if other(walked, b"") < walked.len() {
-        return false;
-    }
-    other(reports, wanted) == reports.len()
-}
-
-// Counts a report by its reason, whose lowest byte is at i.
-fn count_report(wanted: &[u8], i: usize, tally: &mut [u64; 21]) {
-    let reason = byte_at(wanted, i) as usize;
-    if 0 < reason && reason < 6 {
-        bump(tally, REASONS + reason);
-    }
-}
-
-// Counts a case that agrees, and its reports.
-fn count(refusal: u64, wanted: &[u8], tally: &mut [u64; 21]) {
-    bump(tally, AGREE);
-    if refusal < 14 {
-        bump(tally, refusal as usize);
-    }
-    let mut i = 0;
-    while i < wanted.len() / 8 {
-        count_report(wanted, 8 * i + 4, tally);
-        i += 1;
-    }
-}
-
-// The check's own answer.
-fn ask(image: &[u8], outcomes: &mut [u8], walked: &mut [u8], reports: &mut [u8]) -> u64 {
-    thatchnip::thatchnip_check(image, outcomes, walked, reports)
+    let tables = Tables {
+        outcomes: soiled(alloc, outcomes)?,
+        walked: soiled(alloc, walked)?,
+        reports: soiled(alloc, reports)?,
+    };
+    let reported = next_bytes(alloc, from, length, Fault::EndsInReports(number))?;
+    Ok(Case {
+        number,
+        image,
+        tables,
+        recorded,
+        reported,
+    })
 }
 
 // Asks the check about a case and compares.
-fn judge(
-    rt: &impl Print,
-    case: u64,
-    image: &[u8],
-    outcomes: &mut [u8],
-    walked: &mut [u8],
-    reports: &mut [u8],
-    wanted: &[u8],
-    recorded: u64,
-    tally: &mut [u64; 21],
-) -> io::Result<()> {
-    soil(outcomes);
-    soil(walked);
-    soil(reports);
-    let result = ask(image, outcomes, walked, reports);
-    if agrees(result, recorded, outcomes, walked, reports, wanted) {
-        count(recorded / 4294967296, wanted, tally);
+fn hold(rt: &impl Print, mut case: Case, tally: &mut Tally) -> io::Result<()> {
+    let answer = case.ask();
+    if case.agrees(answer) {
+        tally.count(&case);
         return Ok(());
     }
-    if tally[DIFFER] < 10 {
-        tell(
-            rt, case, result, recorded, outcomes, walked, reports, wanted,
-        )?;
+    if tally.differ < TOLD {
+        rt.println(Difference {
+            case: &case,
+            answer,
+        })?;
     }
-    bump(tally, DIFFER);
+    tally.differ = tally.differ.wrapping_add(1);
     Ok(())
 }
 
-// Writes why a case cannot be read, and answers false.
-fn fault(rt: &impl Print, case: u64, why: &[u8]) -> io::Result<bool> {
-    put(rt, b"case ")?;
-    put_number(rt, case)?;
-    put(rt, why)?;
-    Ok(false)
-}
-
-// So many bytes of a buffer, or all of them where it has fewer.
-fn within(bytes: u64, buf: &[u8]) -> usize
-    ensures { IsPrefixLen result buf.now }
-{
-    if bytes < buf.len() as u64 {
-        bytes as usize
-    } else {
-        buf.len()
+// Replays the whole input.
+fn replay(rt: &HostRuntime, from: &mut impl Read, tally: &mut Tally) -> Result<(), Fault> {
+    let total = next_number(from, Fault::NoTotal)?;
+    for number in 1..=total {
+        hold(rt, next_case(rt.alloc(), from, number)?, tally)?;
     }
-}
-
-// Reads n bytes of the input to the start of a buffer. False where the input ends.
-fn read(from: &mut impl Read, buf: &mut [u8], n: usize) -> io::Result<bool>
-    requires { IsPrefixLen n buf.old }
-    ensures { IsPrefixLen n buf.new }
-{
-    Ok(read_full(from, &mut buf[..n])? == n)
-}
-
-// A refusal and a count in one number, as the check gives them.
-fn packed(refusal: u64, count: u64) -> u64
-    requires refusal_bound { refusal ≤ 13 }
-    requires count_bound { count ≤ 4294967296 }
-{
-    count + 4294967296 * refusal
-}
-
-// What follows a case's image: its places and its answer. False where the input is not so.
-fn answer(
-    rt: &impl Print,
-    from: &mut impl Read,
-    case: u64,
-    image: &[u8],
-    outcomes: &mut [u8],
-    walked: &mut [u8],
-    reports: &mut [u8],
-    wanted: &mut [u8],
-    tally: &mut [u64; 21],
-) -> io::Result<bool> {
-    let o = within(next_number(from)? * 8 + case % 8, outcomes);
-    let w = within(next_number(from)? * 4 + case % 4, walked);
-    let r = within(next_number(from)? * 8 + case / 8 % 8, reports);
-    let refusal = next_number(from)?;
-    let count = next_number(from)?;
-    let n = within(count * 8, wanted);
-    if count == ENDED {
-        return fault(rt, case, b": the input ends after its image\n");
-    }
-    if o == outcomes.len() || w == walked.len() || r == reports.len() {
-        return fault(rt, case, b": malformed, too many places\n");
-    }
-    if 13 < refusal || r < n {
-        return fault(rt, case, b": malformed, no such answer\n");
-    }
-    if !read(from, wanted, n)? {
-        return fault(rt, case, b": the input ends in its reports\n");
-    }
-    judge(
-        rt,
-        case,
-        image,
-        &mut outcomes[..o],
-        &mut walked[..w],
-        &mut reports[..r],
-        &wanted[..n],
-        packed(refusal, count),
-        tally,
-    )?;
-    Ok(true)
-}
-
-// One case of the input. False where it has none.
-fn one(
-    rt: &impl Print,
-    from: &mut impl Read,
-    case: u64,
-    image: &mut [u8],
-    outcomes: &mut [u8],
-    walked: &mut [u8],
-    reports: &mut [u8],
-    wanted: &mut [u8],
-    tally: &mut [u64; 21],
-) -> io::Result<bool> {
-    let length = next_number(from)?;
-    let n = within(length, image);
-    if length == ENDED {
-        return fault(rt, case, b": the input ends before it\n");
-    }
-    if n == image.len() {
-        return fault(rt, case, b": malformed, too long an image\n");
-    }
-    if !read(from, image, n)? {
-        return fault(rt, case, b": the input ends in its image\n");
-    }
-    answer(
-        rt,
-        from,
-        case,
-        &image[..n],
-        outcomes,
-        walked,
-        reports,
-        wanted,
-        tally,
-    )
-}
-
-// So many cases of the input. False where it has fewer.
-fn cases(
-    rt: &impl Print,
-    from: &mut impl Read,
-    total: u64,
-    image: &mut [u8],
-    outcomes: &mut [u8],
-    walked: &mut [u8],
-    reports: &mut [u8],
-    wanted: &mut [u8],
-    tally: &mut [u64; 21],
-) -> io::Result<bool> {
-    let mut case = 0;
-    while case < total {
-        case += 1;
-        if !one(
-            rt, from, case, image, outcomes, walked, reports, wanted, tally,
-        )? {
-            return Ok(false);
-        }
-    }
-    Ok(true)
-}
-
-// Whether the input ends here.
-fn is_at_end(from: &mut impl Read) -> io::Result<bool> {
-    let mut bytes = [0u8; 1];
-    Ok(read_full(from, &mut bytes)? == 0)
-}
-
-// Replays the whole input. False where it is not a number of cases and so many cases.
-fn replay(
-    rt: &impl Print,
-    from: &mut impl Read,
-    outcomes: &mut [u8; 1048576],
-    tally: &mut [u64; 21],
-) -> io::Result<bool> {
-    let mut image = [0u8; 65536];
-    let mut walked = [0u8; 65536];
-    let mut reports = [0u8; 65536];
-    let mut wanted = [0u8; 65536];
-    let total = next_number(from)?;
-    if total == ENDED {
-        put(rt, b"the input ends before its number of cases\n")?;
-        return Ok(false);
-    }
-    if !cases(
-        rt,
-        from,
-        total,
-        &mut image,
-        outcomes,
-        &mut walked,
-        &mut reports,
-        &mut wanted,
-        tally,
-    )? {
-        return Ok(false);
-    }
-    if !is_at_end(from)? {
-        put(rt, b"the input goes on after its last case\n")?;
-        return Ok(false);
-    }
-    Ok(true)
-}
-
-// Writes the counts from one place to another, one a line, each with its place less base.
-fn put_counts(
-    rt: &impl Print,
-    name: &[u8],
-    base: usize,
-    from: usize,
-    to: usize,
-    tally: &[u64; 21],
-) -> io::Result<()>
-    requires { (base ≤ from) × (to ≤ 21) }
-{
-    let mut i = from;
-    while i < to {
-        put(rt, name)?;
-        put_number(rt, (i - base) as u64)?;
-        put(rt, b": ")?;
-        put_number(rt, tally[i])?;
-        put(rt, b"\n")?;
-        i += 1;
+    if from.read(&mut [0])? != 0 {
+        return Err(Fault::GoesOn);
     }
     Ok(())
-}
-
-// Writes all counts.
-fn put_tally(rt: &impl Print, tally: &[u64; 21]) -> io::Result<()> {
-    put_number(rt, tally[AGREE].wrapping_add(tally[DIFFER]))?;
-    put(rt, b" cases, ")?;
-    put_number(rt, tally[AGREE])?;
-    put(rt, b" agree\n")?;
-    put_counts(rt, b"refusal ", 0, 0, 14, tally)?;
-    put_counts(rt, b"reports of reason ", REASONS, 14, 19, tally)
 }
 
 fn main(rt: HostRuntime) -> io::Result<()> {
-    let mut outcomes = [0u8; 1048576];
-    let mut tally = [0u64; 21];
-    let is_whole = replay(&rt, &mut rt.stdin(), &mut outcomes, &mut tally)?;
-    put_tally(&rt, &tally)?;
-    if !is_whole {
-        return put(&rt, b"not all read\n");
-    }
-    if tally[DIFFER] == 0 {
-        put(&rt, b"all agree\n")
-    } else {
-        put(&rt, b"not all agree\n")
-    }
+    let mut tally = Tally::default();
+    let verdict = match replay(&rt, &mut rt.stdin(), &mut tally) {
+        Ok(()) if tally.differ == 0 => "all agree",
+        Ok(()) => "not all agree",
+        Err(Fault::Failed(error)) => return Err(error),
+        Err(fault) => {
+            println!(rt; "{fault}")?;
+            "not all read"
+        }
+    };
+    println!(rt; "{tally}{verdict}")
 }

@@ -1,42 +1,27 @@
 -- Where a state stands among the starts, found from the newest on; one start more. Assumes nothing.
-use mathlib.Core.Path.{◌≡◌, refl, sym, ap, ◌∙◌}
-use mathlib.Core.Bool.{Bool, true, false}
+use mathlib.Core.Path.{◌≡◌, refl, ap, ◌∙◌}
+use mathlib.Core.Bool.{Bool, true, false, ◌||◌}
 use mathlib.Core.List.{List, ◌∷◌}
-use mathlib.Core.Option.{Option, none, some}
+use mathlib.Core.Option.{some}
 use Prim.Native.Nat.{ℕ, zero, suc, ◌+◌, ◌-◌, ◌%◌, ◌≤◌, ◌<◌}
-use native.Mathlib.Numerals.{add-one}
+use Prim.Native.Nat.compare
+use native.Mathlib.Numerals.{add-one, one-add}
 use native.Mathlib.Omega.{arith}
 use lib.Dec.{eqb}
 use lib.ListN.{get_or, set, length-set}
-use lib.Seq.{get_or-set_same, get_or-set_other}
-use borrow.Author.Tests.{eq-eqb, ne_eqb, eqb-true, eqb-false}
+use lib.Seq.{get_or-set_same, get_or-set_other, take-suc}
+use borrow.Author.Tests.{eqb-true, eqb-false, lt-ltb}
+use Rattle.std.specs.Prelude.{length, take, reverse, position, cond, not, nat_lt, ◌==◌, Some, None, []}
+use Rattle.std.specs.List.{list_any, position_or_len}
+use Rattle.std.proofs.Math.Bool.{or_comm}
+use Rattle.std.proofs.lemmas.List.{reverse-append}
+use Rattle.std.proofs.lemmas.List.Folds.{list_any-append}
 use Rattle.stack.specs.State.{State, max_len}
 use Rattle.stack.specs.Number.{state_at, NumberOfState}
 use Rattle.asking.specs.Runs.{one_more, place, any_same_top}
 use Rattle.starts.specs.declared.Starts.{Starts}
-use Rattle.starts.specs.Promise.{newest_first, Numbered, More}
+use Rattle.starts.specs.Promise.{newest_first, Numbered, More, place_of}
 use Rattle.starts.proofs.States.{same_state-numbers, same_top-numbers}
-
--- a place found d starts further back
-abbrev pub later : ℕ → Option ℕ → Option ℕ
-later zero m = m
-later (suc d) m = later d (one_more m)
-
-later-none : (d : ℕ) → later d none ≡ none
-later-none zero = refl
-later-none (suc d) = later-none d
-
-later-some : (d k : ℕ) → later d (some k) ≡ some (k + d)
-later-some zero k = let e : k ≡ k + 0 = omega arith in ap some e
-later-some (suc d) k = later-some d (suc k) ∙ (let e : suc k + d ≡ k + suc d = omega arith in ap some e)
-
--- the search from the newest of n starts on, with the first i still to look at
-abbrev pub Finding : List ℕ → ℕ → ℕ → ℕ → Type 0
-Finding states x n i = (i ≤ n) × (place (state_at x) (newest_first states n) ≡ later (n - i) (place (state_at x) (newest_first states i)))
-
--- the same for tracked entries
-abbrev pub Matching : List ℕ → ℕ → ℕ → ℕ → Type 0
-Matching states x n i = (i ≤ n) × (any_same_top (state_at x) (newest_first states n) ≡ any_same_top (state_at x) (newest_first states i))
 
 -- the start so many places back
 pub start-at : (states : List ℕ) (n back : ℕ) → back < n → (other : State) → state_at (get_or states (n - 1 - back) 0) ≡ get_or (newest_first states n) back other
@@ -45,51 +30,47 @@ start-at states zero back l other = absurd (omega arith)
 start-at states (suc n) zero l other = let q : suc n - 1 - 0 ≡ n = omega arith in rw q
 start-at states (suc n) (suc back) l other = let q : suc n - 1 - suc back ≡ n - 1 - back = omega arith in rw q (start-at states n back (omega arith) other)
 
-module _ (states : List ℕ) (x n : ℕ) (hx : NumberOfState max_len x) (each : (i : ℕ) → i < n → NumberOfState max_len (get_or states i 0)) where
-  pub find-start : Finding states x n n
-  find-start = let e : n - n ≡ 0 = omega arith in (omega arith, rw e)
+-- the numbers of the first starts, the newest first
+newest : (states : List ℕ) (n : ℕ) → suc n ≤ length states → reverse (take (suc n) states) ≡ get_or states n 0 ∷ reverse (take n states)
+newest states n l = ap reverse (take-suc states n 0 (omega arith)) ∙ reverse-append (take n states) (get_or states n 0 ∷ [])
 
-  pub find-hit : (i : ℕ) → 0 < i → Finding states x n i → get_or states (i - 1) 0 ≡ x → some (n - 1 - (i - 1)) ≡ place (state_at x) (newest_first states n)
-  unfolding newest_first
-  find-hit zero l h e = absurd (omega arith)
-  find-hit (suc i) l h e =
-      let q : suc i - 1 ≡ i = omega arith in
-      let k : n - 1 - (suc i - 1) ≡ 0 + (n - suc i) = omega arith in
-      let f : place (state_at x) (newest_first states n) ≡ later (n - suc i) (some 0) =
-      h.1 ∙ rw (same_state-numbers x (get_or states i 0) hx (each i (omega (arith, h.0))), eq-eqb x (get_or states i 0) (sym (rw q at e))) in
-      ap some k ∙ sym (f ∙ later-some (n - suc i) 0)
+-- the first place at which p passes, from the newest start on
+place-cons : (p : ℕ → Bool) (y : ℕ) (ys : List ℕ) → place_of (position p (y ∷ ys)) ≡ cond (p y) (some 0) (one_more (place_of (position p ys)))
+place-cons p y ys = passes (p y)
+  where
+    k : ℕ
+    k = position_or_len p ys
 
-  pub find-on : (i : ℕ) → 0 < i → Finding states x n i → (get_or states (i - 1) 0 ≡ x → ⊥) → Finding states x n (i - 1)
-  unfolding newest_first
-  find-on zero l h e = absurd (omega arith)
-  find-on (suc i) l h e =
-      let q : suc i - 1 ≡ i = omega arith in
-      let k : n - i ≡ suc (n - suc i) = omega (arith, h.0) in
-      rw q (omega (arith, h.0), h.1 ∙ rw (same_state-numbers x (get_or states i 0) hx (each i (omega (arith, h.0))), ne_eqb x (get_or states i 0) (λ p. e (rw q (sym p))), k))
+    later : (b : Bool) → place_of (cond b (Some (suc k)) None) ≡ one_more (place_of (cond b (Some k) None))
+    later true = refl
+    later false = refl
 
-  pub find-end : (i : ℕ) → i ≤ 0 → Finding states x n i → none ≡ place (state_at x) (newest_first states n)
-  unfolding newest_first
-  find-end zero l h = sym (h.1 ∙ later-none (n - 0))
-  find-end (suc i) l h = absurd (omega arith)
+    passes : (b : Bool)
+        → place_of (cond (nat_lt (cond (not b) (1 + k) 0) (suc (length ys))) (Some (cond (not b) (1 + k) 0)) None) ≡ cond b (some 0) (one_more (place_of (position p ys)))
+    passes true = rw (lt-ltb 0 (suc (length ys)) (omega arith)) refl
+    passes false = rw (one-add, compare.suc-suc) (later (nat_lt k (length ys)))
 
-  pub match-hit : (i : ℕ) → 0 < i → Matching states x n i → get_or states (i - 1) 0 % 4096 ≡ x % 4096 → true ≡ any_same_top (state_at x) (newest_first states n)
+module _ (states : List ℕ) (x : ℕ) (hx : NumberOfState max_len x) where
+  -- the number's place among the first n numbers read backwards is the state's place among their states
+  pub place-found : (n : ℕ) → n ≤ length states → ((i : ℕ) → i < n → NumberOfState max_len (get_or states i 0))
+      → place_of (position (λ there. x == there) (reverse (take n states))) ≡ place (state_at x) (newest_first states n)
   unfolding newest_first
-  match-hit zero l h e = absurd (omega arith)
-  match-hit (suc i) l h e =
-      let q : suc i - 1 ≡ i = omega arith in
-      sym (h.1 ∙ rw (same_top-numbers x (get_or states i 0) hx (each i (omega (arith, h.0))), eq-eqb (x % 4096) (get_or states i 0 % 4096) (sym (rw q at e))))
+  place-found zero l each = refl
+  place-found (suc n) l each =
+      let y = get_or states n 0 in
+      rw (newest states n l, same_state-numbers x y hx (each n (omega arith)), ← place-found n (omega arith) (λ i k. each i (omega arith)))
+      (place-cons (λ there. x == there) y (reverse (take n states)))
 
-  pub match-on : (i : ℕ) → 0 < i → Matching states x n i → (get_or states (i - 1) 0 % 4096 ≡ x % 4096 → ⊥) → Matching states x n (i - 1)
+  -- a number among the first n with the same lower 12 bits is a start with the same tracked entries
+  pub match-found : (n : ℕ) → n ≤ length states → ((i : ℕ) → i < n → NumberOfState max_len (get_or states i 0))
+      → list_any (λ there. x % 4096 == there % 4096) (take n states) ≡ any_same_top (state_at x) (newest_first states n)
   unfolding newest_first
-  match-on zero l h e = absurd (omega arith)
-  match-on (suc i) l h e =
-      let q : suc i - 1 ≡ i = omega arith in
-      rw q (omega (arith, h.0), h.1 ∙ rw (same_top-numbers x (get_or states i 0) hx (each i (omega (arith, h.0))), ne_eqb (x % 4096) (get_or states i 0 % 4096) (λ p. e (rw q (sym p)))))
-
-  pub match-end : (i : ℕ) → i ≤ 0 → Matching states x n i → false ≡ any_same_top (state_at x) (newest_first states n)
-  unfolding newest_first
-  match-end zero l h = sym h.1
-  match-end (suc i) l h = absurd (omega arith)
+  match-found zero l each = refl
+  match-found (suc n) l each =
+      let y = get_or states n 0 in
+      let same : ℕ → Bool = λ there. x % 4096 == there % 4096 in
+      rw (take-suc states n 0 (omega arith), list_any-append same (take n states) (y ∷ []), same_top-numbers x y hx (each n (omega arith)), ← match-found n (omega arith) (λ i k. each i (omega arith)))
+      (or_comm (list_any same (take n states)) (same y || false) ∙ ap (λ b. b || list_any same (take n states)) (or_comm (same y) false))
 
 -- a start stored past the first n leaves them
 newest-kept : (states : List ℕ) (n m x : ℕ) → n ≤ m → newest_first (set states m x) n ≡ newest_first states n

@@ -1,7 +1,7 @@
 -- Two states are the same exactly if their numbers are, and have the same tracked entries exactly if the lower 12 bits are.
 -- Assumes nothing.
 use mathlib.Core.Path.{◌≡◌, refl, sym, ap, ◌∙◌}
-use mathlib.Core.Bool.{Bool, true, false, ◌&&◌}
+use mathlib.Core.Bool.{Bool, true, false, true≢false, ◌&&◌}
 use Prim.Native.Nat.{ℕ, ◌+◌, ◌*◌, ◌%◌}
 use native.Mathlib.Omega.{arith}
 use lib.Dec.{eqb}
@@ -18,7 +18,7 @@ use Rattle.asking.specs.World.{same_base, same_state}
 
 bit-eq : (a b : Bool) → same_bit a b ≡ true → a ≡ b
 bit-eq true b e = sym e
-bit-eq false true e = absurd (let z : ◌≡◌ {A = ℕ} 0 1 = cc in omega arith)
+bit-eq false true e = absurd (true≢false (sym e))
 bit-eq false false e = refl
 
 base-refl : (b : Base) → same_base b b ≡ true
@@ -28,13 +28,13 @@ base-refl Any = refl
 
 base-eq : (a b : Base) → same_base a b ≡ true → a ≡ b
 base-eq Empty Empty e = refl
-base-eq Empty Blank e = absurd (let z : ◌≡◌ {A = ℕ} 0 1 = cc in omega arith)
-base-eq Empty Any e = absurd (let z : ◌≡◌ {A = ℕ} 0 1 = cc in omega arith)
-base-eq Blank Empty e = absurd (let z : ◌≡◌ {A = ℕ} 0 1 = cc in omega arith)
+base-eq Empty Blank e = absurd (true≢false (sym e))
+base-eq Empty Any e = absurd (true≢false (sym e))
+base-eq Blank Empty e = absurd (true≢false (sym e))
 base-eq Blank Blank e = refl
-base-eq Blank Any e = absurd (let z : ◌≡◌ {A = ℕ} 0 1 = cc in omega arith)
-base-eq Any Empty e = absurd (let z : ◌≡◌ {A = ℕ} 0 1 = cc in omega arith)
-base-eq Any Blank e = absurd (let z : ◌≡◌ {A = ℕ} 0 1 = cc in omega arith)
+base-eq Blank Any e = absurd (true≢false (sym e))
+base-eq Any Empty e = absurd (true≢false (sym e))
+base-eq Any Blank e = absurd (true≢false (sym e))
 base-eq Any Any e = refl
 
 pub same_state-refl : (s : State) → same_state s s ≡ true

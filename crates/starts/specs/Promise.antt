@@ -1,11 +1,10 @@
 -- The starts as a list of states, newest first, and what the promises say of it. Assumes nothing.
-use Rattle.std.specs.Prelude.{◌≡◌, List, [], ◌∷◌, ℕ, zero, suc, ◌+◌, ◌-◌, ◌≤◌, ◌<◌, get_or, length, set, replicate}
-use Rattle.std.proofs.Math.Option.{Option, none, some}
+use Rattle.std.specs.Prelude.{◌≡◌, List, [], ◌∷◌, ℕ, zero, suc, ◌+◌, ◌-◌, ◌≤◌, ◌<◌, get_or, length, set, replicate, Option, Some, None}
+use Rattle.std.proofs.Math.Option as Math
+use Rattle.std.proofs.Math.Option.{none, some}
 use Rattle.stack.specs.State.{State, max_len}
 use Rattle.stack.specs.Number.{state_at, NumberOfState}
 use Rattle.starts.specs.declared.Starts.{Starts}
-use Rattle.starts.specs.declared.Spot.{Spot}
-use Rattle.starts.specs.declared.Spot.TheVariants.{Back, New}
 
 -- the states of the first n numbers of an array, the newest first
 unfoldable pub newest_first : List ℕ → ℕ → List State
@@ -35,10 +34,10 @@ pub record More (run : Starts) (state : ℕ) (r : Starts) : Type 0 where
   pub starts : starts_of r ≡ state_at state ∷ starts_of run
   pub numbered : Numbered r
 
--- what each case of the enum Spot says
-abbrev pub place_of : Spot → Option ℕ
-place_of (Back i) = some i
-place_of New = none
+-- a place or none, as the definitions say it
+abbrev pub place_of : Option ℕ → Math.Option ℕ
+place_of (Some i) = some i
+place_of None = none
 
 -- the number of the start so many places back
 pub record At (run : Starts) (back r : ℕ) : Type 0 where

@@ -7,11 +7,12 @@
 #![tactic(auto)]
 
 use std::io;
-use tables::Probe;
+use tables::report::{set_word, word_at};
+use tables::{MapPlace, Probe, SetPlace, clear, enter, find, store, value};
 
 // A digit as a byte of text.
 fn digit(x: u64) -> u8 {
-    (x % 10) as u8 + 48
+    (x % 10) as u8 + b'0'
 }
 
 // Eleven keys, not in order, again and again.
@@ -21,15 +22,14 @@ fn key_of(i: usize) -> u64 {
 
 // Asks the map for a key and counts its meetings in its value.
 fn meet(t: &mut [u8], key: u64) -> u8 {
-    let p = tables::find8(t, key);
-    match p {
+    match find::<MapPlace>(t, key) {
         Probe::Found(i) => {
-            let met = tables::value8(t, i);
-            tables::store8(t, i, met + 1);
+            let met = value::<MapPlace>(t, i);
+            store::<MapPlace>(t, i, met + 1);
             digit(met)
         }
         Probe::Free(i) => {
-            tables::enter8(t, i, key, 1);
+            enter::<MapPlace>(t, i, key, 1);
             b'0'
         }
         Probe::Full => b'8',
@@ -38,20 +38,17 @@ fn meet(t: &mut [u8], key: u64) -> u8 {
 
 // One ask for each byte of out.
 fn meet_all(t: &mut [u8], out: &mut [u8]) {
-    let mut i = 0;
-    while i < out.len() {
-        out[i] = meet(t, key_of(i));
-        i += 1;
+    for (i, answer) in out.iter_mut().enumerate() {
+        *answer = meet(t, key_of(i));
     }
 }
 
 // Asks the set for a key and puts it in.
 fn walk(t: &mut [u8], key: u64) -> u8 {
-    let p = tables::find4(t, key);
-    match p {
+    match find::<SetPlace>(t, key) {
         Probe::Found(_) => b'1',
         Probe::Free(i) => {
-            tables::enter4(t, i, key);
+            enter::<SetPlace>(t, i, key, 0);
             b'0'
         }
         Probe::Full => b'9',
@@ -60,41 +57,23 @@ fn walk(t: &mut [u8], key: u64) -> u8 {
 
 // One ask for each byte of out.
 fn walk_all(t: &mut [u8], out: &mut [u8]) {
-    let mut i = 0;
-    while i < out.len() {
-        out[i] = walk(t, key_of(i));
-        i += 1;
+    for (i, answer) in out.iter_mut().enumerate() {
+        *answer = walk(t, key_of(i));
     }
-}
-
-// The lowest decimal digits of x, as many as out has bytes.
-fn decimal(x: u64, out: &mut [u8]) {
-    let mut rest = x;
-    let mut i = out.len();
-    while 0 < i {
-        i -= 1;
-        out[i] = digit(rest);
-        rest = rest / 10;
-    }
-}
-
-// Prints a word and the byte after it.
-fn print_word(rt: &impl Print, x: u64, after: &[u8]) -> io::Result<()> {
-    let mut out = [0u8; 11];
-    decimal(x, &mut out);
-    rt.write_all(&out)?;
-    rt.write_all(after)
 }
 
 // Puts two words of three and prints all three.
 fn print_words(rt: &impl Print) -> io::Result<()> {
     let mut t = [0u8; 30];
-    tables::report::set_word(&mut t, 0, 99999999999);
-    tables::report::set_word(&mut t, 1, 12884901890);
-    tables::report::set_word(&mut t, 0, 14495514628);
-    print_word(rt, tables::report::word_at(&t, 0), b" ")?;
-    print_word(rt, tables::report::word_at(&t, 1), b" ")?;
-    print_word(rt, tables::report::word_at(&t, 2), b"\n")
+    set_word(&mut t, 0, 99999999999);
+    set_word(&mut t, 1, 12884901890);
+    set_word(&mut t, 0, 14495514628);
+    println!(rt;
+        "{:011} {:011} {:011}",
+        word_at(&t, 0),
+        word_at(&t, 1),
+        word_at(&t, 2)
+    )
 }
 
 fn main(rt: HostRuntime) -> io::Result<()> {
@@ -107,7 +86,7 @@ fn main(rt: HostRuntime) -> io::Result<()> {
     walk_all(&mut set, &mut out);
     rt.write_all(&out)?;
     rt.write_all(b"\n")?;
-    tables::clear(&mut map);
+    clear(&mut map);
     meet_all(&mut map, &mut out);
     rt.write_all(&out)?;
     rt.write_all(b"\n")?;

@@ -1,11 +1,12 @@
 -- The passes in their order, and what the entry leaves: each return by the definition. Assumes nothing.
+use Rattle.std.specs.Prelude.{Result, Ok, Err}
 use mathlib.Core.Path.{◌≡◌, refl, sym, ap, subst, ◌∙◌}
 use mathlib.Core.Bool.{Bool, true, false}
 use mathlib.Core.List.{List, [], ◌++◌}
 use Prim.Native.Nat.{ℕ, zero, suc, ◌+◌, ◌-◌, ◌*◌, ◌/◌, ◌%◌, ◌≤◌, ◌<◌}
 use native.Mathlib.Omega.{arith}
 use native.Mathlib.Decide.{ℕ_discrete, dec_lt}
-use lib.Dec.{eqb, leb, lit<}
+use lib.Dec.{eqb, leb}
 use lib.ListN.{length, get_or, set, take, length-set, length-append, get_or-eq_default}
 use lib.Seq.{length-take-le, get_or-set_same, get_or-set_other}
 use borrow.Author.Tests.{eqb-true, eqb-false}
@@ -13,10 +14,12 @@ use Rattle.image.specs.declared.expr.Expr.TheVariants.{Ident, Range}
 use Rattle.image.specs.Formed.{Formed}
 use Rattle.image.specs.Grammar.{Grammar, Node, grammar, no_node, expr_at}
 use Rattle.image.specs.Refusal.{refusal}
+use Rattle.image.specs.declared.refusal.Refusal.{Refusal}
+use Rattle.image.specs.RefusalNumber.{refusal_number, number_of}
+use Rattle.image.proofs.RefusalLaws.{refusal_number-positive, refusal_number-nonzero}
 use Rattle.asking.specs.World as A
 use Rattle.asking.specs.World.{Answer}
 use Rattle.asking.specs.StackPass.{loop_reports, stack_pass}
-use Rattle.asking.proofs.FewLoops.{loops-refusal}
 use Rattle.reading.specs.Names.{Resolved, found_in}
 use Rattle.reading.proofs.NameLaws.{rule-of-word}
 use Rattle.standing.proofs.Moves.{loop-reports-length}
@@ -25,15 +28,13 @@ use Rattle.tables.specs.Places.{places}
 use Rattle.tables.specs.Words.{words, laid, Holds}
 use Rattle.tables.proofs.Words.{words-length}
 use Rattle.tables.proofs.Laid.{laid_none, laid-holds}
-use Rattle.turns.specs.declared.Placed.{Placed}
 use Rattle.analysis.specs.Promise.{PassedIf, StackPassed}
-use Rattle.passes.specs.declared.left.Passed.{Passed}
-use Rattle.passes.specs.Report.{Result, refused, done, onward, place_if, place}
+use Rattle.passes.specs.Report.{Result as Found, refused, done, onward, place_if, place}
 use Rattle.passes.specs.TopDown.{validate_repetition, validate_choices}
 use Rattle.passes.specs.LeftRecursion.{left_recursion}
 use Rattle.passes.specs.Order.{ordered}
 use Rattle.passes.specs.Promise as P
-use Rattle.passes.specs.Promise.{Filled, Ended, LeftPass, Sorted, found_number, RulesNamed}
+use Rattle.passes.specs.Promise.{Filled, LeftPass, Sorted, found_number, RulesNamed}
 use Rattle.passes.proofs.FewReports.{Few}
 use Rattle.passes.proofs.FewRecursions.{few-recursions}
 use Rattle.passes.proofs.Ordering.{ordered-count}
@@ -92,24 +93,32 @@ rules-named g names names' f r o n at len e =
     let inside = ident-inside g n at len e in
     o.each n (omega (arith, f.few-nodes)) ∙ sym (rule-number (get_or names n 0)) ∙ ap found_number (rule-of-word g f names r n at len inside e)
 
--- a pass that has placed its reports, or was due one more than there are places
-module _ (t : List ℕ) (found more : List ℕ) (c : ℕ) where
-  pub placed-full : Filled (place (places 8 t) found more) t c → places 8 t < c → place (places 8 t) found more ≡ refused 10
-  unfolding place
-  placed-full h l = go (leb (length (found ++ more)) (places 8 t)) h
-    where
-      go : (b : Bool) → Filled (place_if (found ++ more) b) t c → place_if (found ++ more) b ≡ refused 10
-      go true h = absurd (let r = h.0.room in omega (arith, h.1))
-      go false h = refl
+-- the count of an answer
+abbrev count_of : Result ℕ Refusal → ℕ
+count_of (Ok count) = count
+count_of (Err k) = 0
 
-  pub placed-done : Filled (place (places 8 t) found more) t c → c ≤ places 8 t
-      → (xs : List ℕ) × (place (places 8 t) found more ≡ done xs) × Holds t xs × (c ≡ length xs)
-  unfolding place
-  placed-done h l = go (leb (length (found ++ more)) (places 8 t)) h
-    where
-      go : (b : Bool) → Filled (place_if (found ++ more) b) t c → (xs : List ℕ) × (place_if (found ++ more) b ≡ done xs) × Holds t xs × (c ≡ length xs)
-      go true h = (found ++ more, refl, h.0, h.1)
-      go false h = absurd (omega (arith, h))
+ok-count : {c n : ℕ} → ◌≡◌ {A = Result ℕ Refusal} (Ok c) (Ok n) → c ≡ n
+ok-count e = ap count_of e
+
+-- a refusal is no answer of reports
+err-ok : {k : Refusal} {n : ℕ} → ◌≡◌ {A = Result ℕ Refusal} (Err k) (Ok n) → ⊥
+err-ok {k} e = refusal_number-nonzero k (ap number_of e)
+
+-- a pass that is refused leaves that refusal, whatever would come after it
+refused-leaves : (k : Refusal) (t t' : List ℕ) (a : Found) (on : List ℕ → Found) → Filled a (Err k) t → LeavesIf (Err k) t' (onward a on)
+refused-leaves k t t' (refused n) on h = (h, let p = refusal_number-positive k in omega (arith, p, h))
+refused-leaves k t t' (done xs) on h = absurd (err-ok h.0)
+
+-- a pass that answers a count has placed its reports
+placed-done : (t found more : List ℕ) (places c : ℕ) → Filled (place places found more) (Ok c) t
+    → (xs : List ℕ) × (place places found more ≡ done xs) × Holds t xs × (c ≡ length xs)
+unfolding place
+placed-done t found more places c h = go (leb (length (found ++ more)) places) h
+  where
+    go : (b : Bool) → Filled (place_if (found ++ more) b) (Ok c) t → (xs : List ℕ) × (place_if (found ++ more) b ≡ done xs) × Holds t xs × (c ≡ length xs)
+    go true h = (found ++ more, refl, h.1, ok-count h.0)
+    go false h = absurd (omega (arith, h))
 
 -- what a table holds is what its first words are
 held-words : {t xs : List ℕ} {c : ℕ} → Holds t xs → c ≡ length xs → take c (words t) ≡ xs
@@ -123,34 +132,26 @@ pub holds-none : (t₀ : List ℕ) {t : List ℕ} → t ≡ zeros (length t₀) 
 holds-none t₀ {t} e = rw (e, laid_none (length t₀)) (laid-holds (length t₀) [] (λ i l. absurd (omega (arith, l))) (omega arith))
 
 -- reasons 1 and 2, and 3
-module _ (image outcomes walked : List ℕ) {reports reports₁ : List ℕ} {count : ℕ} (none : Holds reports []) (long : length reports₁ ≡ length reports)
-    (found : P.Placed (validate_repetition (grammar image)) reports 0 reports₁ count) where
-  filled : Filled (place (places 8 reports₁) [] (validate_repetition (grammar image))) reports₁ count
-  filled = rw (ap (λ (n : ℕ). n / 8) long) (found.tells [] none refl)
+module _ (image outcomes walked reports : List ℕ) where
+  abbrev first : Found
+  first = place (places 8 reports) [] (validate_repetition (grammar image))
 
-  first-place : place (places 8 reports) [] (validate_repetition (grammar image)) ≡ place (places 8 reports₁) [] (validate_repetition (grammar image))
-  first-place = ap (λ (n : ℕ). place (n / 8) [] (validate_repetition (grammar image))) (sym long)
+  pub first-refused : Holds reports [] → {reports₁ : List ℕ} {k : Refusal} → P.Placed (validate_repetition (grammar image)) reports 0 reports₁ (Err k) → {o w : List ℕ} → o ≡ zeros (length outcomes) → w ≡ zeros (length walked)
+      → FirstPasses image outcomes walked reports (Err k) o w reports₁
+  first-refused none {reports₁} {k} found eo ew =
+      record { outcomes-zero = eo; walked-zero = ew; leaves = refused-leaves k reports₁ reports₁ first (λ found₁₂. loops_found found₁₂ (stack_pass (grammar image) (places 8 outcomes) (places 4 walked) (places 8 reports - length found₁₂))) (found.tells [] none refl) }
 
-  pub first-ten : places 8 reports₁ < count → {o w : List ℕ} → o ≡ zeros (length outcomes) → w ≡ zeros (length walked)
-      → FirstPasses image outcomes walked reports (record { refusal = 10; count = 0 }) o w reports₁
-  first-ten l eo ew =
-      record {
-        outcomes-zero = eo;
-        walked-zero = ew;
-        leaves = rw (first-place ∙ placed-full reports₁ [] (validate_repetition (grammar image)) count filled l) (refl, lit< tt);
-      }
+  module _ (none : Holds reports []) (reports₁ : List ℕ) (count : ℕ) (long : length reports₁ ≡ length reports) (found : P.Placed (validate_repetition (grammar image)) reports 0 reports₁ (Ok count)) where
+    d : (xs : List ℕ) × (first ≡ done xs) × Holds reports₁ xs × (count ≡ length xs)
+    d = placed-done reports₁ [] (validate_repetition (grammar image)) (places 8 reports) count (found.tells [] none refl)
 
-  module _ (l : count ≤ places 8 reports₁) where
     pub first_holds : Holds reports₁ (take count (words reports₁)) × (count ≤ places 8 reports₁)
-    first_holds = let d = placed-done reports₁ [] (validate_repetition (grammar image)) count filled l in holds-words d.2 d.3
+    first_holds = let x = d in holds-words x.2 x.3
 
-    pub first-answers : {r : Placed} {o w reports₂ : List ℕ} → StackPassed image outcomes walked reports₁ count r o w reports₂ → FirstPasses image outcomes walked reports r o w reports₂
+    pub first-answers : {r : Result ℕ Refusal} {o w reports₂ : List ℕ} → StackPassed image outcomes walked reports₁ count r o w reports₂ → FirstPasses image outcomes walked reports r o w reports₂
     first-answers {r} {o} {w} {reports₂} s =
-        record { outcomes-zero = s.outcomes-zero; walked-zero = s.walked-zero; leaves = rw (first-place ∙ d.1) (go (pass) refl s.reports) }
+        record { outcomes-zero = s.outcomes-zero; walked-zero = s.walked-zero; leaves = rw d.1 (go r pass refl s.reports) }
       where
-        d : (xs : List ℕ) × (place (places 8 reports₁) [] (validate_repetition (grammar image)) ≡ done xs) × Holds reports₁ xs × (count ≡ length xs)
-        d = placed-done reports₁ [] (validate_repetition (grammar image)) count filled l
-
         xs : List ℕ
         xs = d.0
 
@@ -160,118 +161,109 @@ module _ (image outcomes walked : List ℕ) {reports reports₁ : List ℕ} {cou
         same : stack_pass (grammar image) (places 8 outcomes) (places 4 walked) (places 8 reports - length xs) ≡ pass
         same = rw (sym d.3, long)
 
-        go : (a : Answer (Unit {0})) → pass ≡ a → PassedIf (length reports₁) (take count (words reports₁)) r reports₂ a
+        go : (r : Result ℕ Refusal) (a : Answer (Unit {0})) → pass ≡ a → PassedIf (length reports₁) (take count (words reports₁)) r reports₂ a
             → LeavesIf r reports₂ (loops_found xs (stack_pass (grammar image) (places 8 outcomes) (places 4 walked) (places 8 reports - length xs)))
-        go (A.refused k) e p = rw (same ∙ e) (ap (λ (x : Placed). x.refusal) p.0, (loops-refusal (grammar image) (places 8 outcomes) (places 4 walked) (places 8 reports₁ - count) k e).0)
-        go (A.given u W) e p =
+        go (Err k) (A.refused n) e p = rw (same ∙ e) (p.0, let q = refusal_number-positive k in omega (arith, q, p.0))
+        go (Err k) (A.given u W) e p = absurd p
+        go (Ok c) (A.refused n) e p = absurd p
+        go (Ok c) (A.given u W) e p =
             let q : take count (words reports₁) ≡ xs = held-words d.2 d.3 in
             rw (same ∙ e) (
-              ap (λ (x : Placed). x.refusal) p.0,
-              ap (λ (x : Placed). x.count) p.0 ∙ rw q (sym (length-append xs (loop_reports W.reports) ∙ rw (loop-reports-length W.reports))),
+              ap Ok (p.0 ∙ rw q (sym (length-append xs (loop_reports W.reports) ∙ rw (loop-reports-length W.reports)))),
               subst (λ (ys : List ℕ). Holds reports₂ (ys ++ loop_reports W.reports)) q p.2,
             )
 
 -- reasons 4 and 5, and the order
-module _ (image : List ℕ) {reports reports₁ : List ℕ} {count c₄ : ℕ} (holds : Holds reports (take count (words reports))) (counted : count ≤ places 8 reports) (long : length reports₁ ≡ length reports)
-    (found : P.Placed (validate_choices (grammar image)) reports count reports₁ c₄) where
+module _ (image reports : List ℕ) (count : ℕ) (holds : Holds reports (take count (words reports))) (counted : count ≤ places 8 reports) where
   abbrev before : List ℕ
   before = take count (words reports)
 
   before-long : count ≡ length before
   before-long = sym (length-take-le count (words reports) (omega (arith, words-length reports, counted)))
 
-  filled₄ : Filled (place (places 8 reports₁) before (validate_choices (grammar image))) reports₁ c₄
-  filled₄ = rw (ap (λ (n : ℕ). n / 8) long) (found.tells before holds before-long)
+  abbrev fourth : Found
+  fourth = place (places 8 reports) before (validate_choices (grammar image))
 
-  last-place : place (places 8 reports) before (validate_choices (grammar image)) ≡ place (places 8 reports₁) before (validate_choices (grammar image))
-  last-place = ap (λ (n : ℕ). place (n / 8) before (validate_choices (grammar image))) (sym long)
+  pub choices-refused : {reports₁ : List ℕ} {k : Refusal} → P.Placed (validate_choices (grammar image)) reports count reports₁ (Err k) → LastPasses image reports count (Err k) reports₁
+  choices-refused {reports₁} {k} found =
+      record { leaves = refused-leaves k reports₁ reports₁ fourth (λ found₄. onward (left_recursion (grammar image) (places 8 reports) 0 (grammar image).rules found₄) (λ found₅. done (ordered (grammar image) found₅))) (found.tells before holds before-long) }
 
-  pub last-ten : places 8 reports₁ < c₄ → LastPasses image reports count (record { refusal = 10; count = 0 }) reports₁
-  last-ten l = record { leaves = rw (last-place ∙ placed-full reports₁ before (validate_choices (grammar image)) c₄ filled₄ l) (refl, lit< tt) }
+  module _ (reports₁ : List ℕ) (c₄ : ℕ) (long : length reports₁ ≡ length reports) (found : P.Placed (validate_choices (grammar image)) reports count reports₁ (Ok c₄)) where
+    d₄ : (xs : List ℕ) × (fourth ≡ done xs) × Holds reports₁ xs × (c₄ ≡ length xs)
+    d₄ = placed-done reports₁ before (validate_choices (grammar image)) (places 8 reports) c₄ (found.tells before holds before-long)
 
-  module _ (l : c₄ ≤ places 8 reports₁) {p : Passed} {reports₂ : List ℕ} (left : LeftPass (grammar image) reports₁ c₄ reports₂ p) where
-    d₄ : (xs : List ℕ) × (place (places 8 reports₁) before (validate_choices (grammar image)) ≡ done xs) × Holds reports₁ xs × (c₄ ≡ length xs)
-    d₄ = placed-done reports₁ before (validate_choices (grammar image)) c₄ filled₄ l
-
-    abbrev recursion : Result
+    abbrev recursion : Found
     recursion = left_recursion (grammar image) (places 8 reports₁) 0 (grammar image).rules d₄.0
 
-    ended : Ended recursion p reports₂
-    ended = left.tells d₄.0 d₄.2 d₄.3
+    fifth : left_recursion (grammar image) (places 8 reports) 0 (grammar image).rules d₄.0 ≡ recursion
+    fifth = rw long refl
 
-    few : Few (length (grammar image).rules + length d₄.0) recursion
-    few = few-recursions (grammar image) (places 8 reports₁) 0 (length d₄.0) (grammar image).rules d₄.0 (omega arith)
+    pub left-refused : {reports₂ : List ℕ} {k : Refusal} → LeftPass (grammar image) reports₁ c₄ reports₂ (Err k) → LastPasses image reports count (Err k) reports₂
+    left-refused {reports₂} {k} left =
+        record { leaves = rw (d₄.1, fifth) (refused-leaves k reports₂ reports₂ recursion (λ found₅. done (ordered (grammar image) found₅)) (left.tells d₄.0 d₄.2 d₄.3)) }
 
-    pub last-refuses : (p.refusal ≡ 0 → ⊥) → LastPasses image reports count (record { refusal = p.refusal; count = 0 }) reports₂
-    last-refuses z = record { leaves = rw (last-place ∙ d₄.1, ← long) (go recursion ended few) }
-      where
-        go : (a : Result) → Ended a p reports₂ → Few (length (grammar image).rules + length d₄.0) a
-            → LeavesIf (record { refusal = p.refusal; count = 0 }) reports₂ (onward a (λ found₅. done (ordered (grammar image) found₅)))
-        go (refused k) e f = (e, f.0)
-        go (done xs) e f = absurd (z e.0)
+    module _ (reports₂ : List ℕ) (c₅ : ℕ) (left : LeftPass (grammar image) reports₁ c₄ reports₂ (Ok c₅)) where
+      few : Few (length (grammar image).rules + length d₄.0) recursion
+      few = few-recursions (grammar image) (places 8 reports₁) 0 (length d₄.0) (grammar image).rules d₄.0 (omega arith)
 
-    -- what the pass for reason 5 leaves, where it does not refuse
-    last-held : p.refusal ≡ 0 → (xs : List ℕ) × (recursion ≡ done xs) × Holds reports₂ xs × (p.count ≡ length xs)
-    last-held z = go recursion refl ended few
-      where
-        go : (a : Result) → recursion ≡ a → Ended a p reports₂ → Few (length (grammar image).rules + length d₄.0) a → (xs : List ℕ) × (recursion ≡ done xs) × Holds reports₂ xs × (p.count ≡ length xs)
-        go (refused k) q e f = absurd (let y = f.0 in omega (arith, e, z))
-        go (done xs) q e f = (xs, q, e.1.0, e.1.1)
+      -- what the pass for reason 5 leaves, where it does not refuse
+      last-held : (xs : List ℕ) × (recursion ≡ done xs) × Holds reports₂ xs × (c₅ ≡ length xs)
+      last-held = go recursion refl (left.tells d₄.0 d₄.2 d₄.3) few
+        where
+          go : (a : Found) → recursion ≡ a → Filled a (Ok c₅) reports₂ → Few (length (grammar image).rules + length d₄.0) a → (xs : List ℕ) × (recursion ≡ done xs) × Holds reports₂ xs × (c₅ ≡ length xs)
+          go (refused k) q e f = absurd (let y = f.0 in omega (arith, e, y))
+          go (done xs) q e f = (xs, q, e.1, ok-count e.0)
 
-    pub last-room : p.refusal ≡ 0 → p.count ≤ places 8 reports₂
-    last-room z = let h = last-held z in omega (arith, h.2.room, h.3)
+      pub last-room : c₅ ≤ places 8 reports₂
+      last-room = let h = last-held in omega (arith, h.2.room, h.3)
 
-    pub last-answers : (z : p.refusal ≡ 0) → {reports₃ : List ℕ} → Sorted (grammar image) reports₂ p.count reports₃
-        → LastPasses image reports count (record { refusal = 0; count = p.count }) reports₃
-    last-answers z s =
-        let h = last-held z in
-        record {
-          leaves = rw (last-place ∙ d₄.1, ← long, h.1)
-              (refl, h.3 ∙ sym (ordered-count (grammar image) h.0), s.tells h.0 h.2 h.3);
-        }
+      pub last-answers : {reports₃ : List ℕ} → Sorted (grammar image) reports₂ c₅ reports₃ → LastPasses image reports count (Ok c₅) reports₃
+      last-answers s =
+          let h = last-held in
+          record { leaves = rw (d₄.1, fifth, h.1) (ap Ok (h.3 ∙ sym (ordered-count (grammar image) h.0)), s.tells h.0 h.2 h.3) }
 
 -- the passes in two halves
 check-halves : (g : Grammar) (outcomes walked reports : ℕ) → check_grammar g outcomes walked reports ≡ onward (first_found g outcomes walked reports) (last_found g reports)
 unfolding check_grammar
 check-halves g outcomes walked reports = go (place reports [] (validate_repetition g))
   where
-    go : (a : Result)
+    go : (a : Found)
         → onward a (λ found₁₂. onward (loops_found found₁₂ (stack_pass g outcomes walked (reports - length found₁₂))) (last_found g reports))
         ≡ onward (onward a (λ found₁₂. loops_found found₁₂ (stack_pass g outcomes walked (reports - length found₁₂)))) (last_found g reports)
     go (refused k) = refl
     go (done found) = refl
 
-module _ {image outcomes walked reports : List ℕ} {r : Placed} {o w reports₁ : List ℕ} (long : length reports₁ ≡ length reports) (h : FirstPasses image outcomes walked reports r o w reports₁) where
-  abbrev half : Result
+module _ (image outcomes walked reports : List ℕ) where
+  abbrev half : Found
   half = first_found (grammar image) (places 8 outcomes) (places 4 walked) (places 8 reports)
 
-  pub image-refuses : (r.refusal ≡ 0 → ⊥) → CheckedImage image outcomes walked reports r o w reports₁
-  image-refuses z =
+  pub image-refuses : {o w reports₁ : List ℕ} {k : Refusal} → FirstPasses image outcomes walked reports (Err k) o w reports₁ → CheckedImage image outcomes walked reports (Err k) o w reports₁
+  image-refuses {o} {w} {reports₁} {k} h =
       record {
         outcomes-zero = h.outcomes-zero;
         walked-zero = h.walked-zero;
         leaves = rw (check-halves (grammar image) (places 8 outcomes) (places 4 walked) (places 8 reports)) (go half h.leaves);
       }
     where
-      go : (a : Result) → LeavesIf r reports₁ a → LeavesIf r reports₁ (onward a (last_found (grammar image) (places 8 reports)))
-      go (refused k) e = e
-      go (done xs) e = absurd (z e.0)
+      go : (a : Found) → LeavesIf (Err k) reports₁ a → LeavesIf (Err k) reports₁ (onward a (last_found (grammar image) (places 8 reports)))
+      go (refused n) e = e
+      go (done xs) e = absurd (err-ok e.0)
 
-  module _ (z : r.refusal ≡ 0) where
-    half-done : (xs : List ℕ) × (half ≡ done xs) × Holds reports₁ xs × (r.count ≡ length xs)
+  module _ (o w reports₁ : List ℕ) (c : ℕ) (long : length reports₁ ≡ length reports) (h : FirstPasses image outcomes walked reports (Ok c) o w reports₁) where
+    half-done : (xs : List ℕ) × (half ≡ done xs) × Holds reports₁ xs × (c ≡ length xs)
     half-done = go half refl h.leaves
       where
-        go : (a : Result) → half ≡ a → LeavesIf r reports₁ a → (xs : List ℕ) × (half ≡ done xs) × Holds reports₁ xs × (r.count ≡ length xs)
-        go (refused k) q e = absurd (let l = e.1 in omega (arith, e.0, z))
-        go (done xs) q e = (xs, q, e.2, e.1)
+        go : (a : Found) → half ≡ a → LeavesIf (Ok c) reports₁ a → (xs : List ℕ) × (half ≡ done xs) × Holds reports₁ xs × (c ≡ length xs)
+        go (refused k) q e = absurd (let l = e.1 in omega (arith, e.0, l))
+        go (done xs) q e = (xs, q, e.1, ok-count e.0)
 
-    pub half-holds : Holds reports₁ (take r.count (words reports₁)) × (r.count ≤ places 8 reports₁)
+    pub half-holds : Holds reports₁ (take c (words reports₁)) × (c ≤ places 8 reports₁)
     half-holds = let d = half-done in holds-words d.2 d.3
 
-    pub image-answers : {q : Placed} {reports₂ : List ℕ} → LastPasses image reports₁ r.count q reports₂ → CheckedImage image outcomes walked reports q o w reports₂
+    pub image-answers : {q : Result ℕ Refusal} {reports₂ : List ℕ} → LastPasses image reports₁ c q reports₂ → CheckedImage image outcomes walked reports q o w reports₂
     image-answers {q} {reports₂} l =
         let d = half-done in
-        let e : take r.count (words reports₁) ≡ d.0 = held-words d.2 d.3 in
+        let e : take c (words reports₁) ≡ d.0 = held-words d.2 d.3 in
         record {
           outcomes-zero = h.outcomes-zero;
           walked-zero = h.walked-zero;
@@ -288,44 +280,44 @@ module _ (image outcomes walked reports : List ℕ) where
   judged-so zero e z = absurd (z refl)
   judged-so (suc k) e z = rw (← e)
 
-  pub entry-refuses : {k r : ℕ} → k ≡ refusal image → (k ≡ 0 → ⊥) → r ≡ 4294967296 * k → {o w t : List ℕ} → o ≡ zeros (length outcomes) → w ≡ zeros (length walked) → t ≡ zeros (length reports)
+  pub entry-refuses : (k : Refusal) {r : ℕ} → refusal_number k ≡ refusal image → r ≡ 4294967296 * refusal_number k → {o w t : List ℕ} → o ≡ zeros (length outcomes) → w ≡ zeros (length walked) → t ≡ zeros (length reports)
       → Checked image outcomes walked reports r o w t
-  entry-refuses {k} e z q eo ew et =
-      record { number = rw (judged-so k e z) q; outcomes-zero = eo; walked-zero = ew; report-bytes = rw (judged-so k e z) et }
+  entry-refuses k e q eo ew et =
+      record { number = rw (judged-so (refusal_number k) e (refusal_number-nonzero k)) q; outcomes-zero = eo; walked-zero = ew; report-bytes = rw (judged-so (refusal_number k) e (refusal_number-nonzero k)) et }
 
-  module _ (accepts : refusal image ≡ 0) {p : Placed} {o w reports₁ reports₂ : List ℕ} (long : length reports₁ ≡ length reports) (h : CheckedImage image outcomes walked reports₁ p o w reports₂) where
-    abbrev whole : Result
-    whole = check_grammar (grammar image) (places 8 outcomes) (places 4 walked) (places 8 reports)
+  abbrev whole : Found
+  whole = check_grammar (grammar image) (places 8 outcomes) (places 4 walked) (places 8 reports)
 
-    whole-leaves : LeavesIf p reports₂ whole
-    whole-leaves = subst (λ (n : ℕ). LeavesIf p reports₂ (check_grammar (grammar image) (places 8 outcomes) (places 4 walked) (n / 8))) long h.leaves
+  is_whole : refusal image ≡ 0 → checked image (length outcomes) (length walked) (length reports) ≡ whole
+  unfolding checked check
+  is_whole accepts = rw accepts
 
-    is_whole : checked image (length outcomes) (length walked) (length reports) ≡ whole
-    unfolding checked check
-    is_whole = rw accepts
+  module _ (accepts : refusal image ≡ 0) (o w reports₁ reports₂ : List ℕ) (long : length reports₁ ≡ length reports) where
+    whole-leaves : {p : Result ℕ Refusal} → CheckedImage image outcomes walked reports₁ p o w reports₂ → LeavesIf p reports₂ whole
+    whole-leaves {p} h = subst (λ (n : ℕ). LeavesIf p reports₂ (check_grammar (grammar image) (places 8 outcomes) (places 4 walked) (n / 8))) long h.leaves
 
     -- a pass refuses
-    pub entry-refuses-later : (p.refusal ≡ 0 → ⊥) → {r : ℕ} → r ≡ 4294967296 * p.refusal → {t : List ℕ} → t ≡ zeros (length reports) → Checked image outcomes walked reports r o w t
-    entry-refuses-later z {r} q {t} et =
-        record { number = rw is_whole (number whole whole-leaves); outcomes-zero = h.outcomes-zero; walked-zero = h.walked-zero; report-bytes = rw is_whole (bytes whole whole-leaves) }
+    pub entry-refuses-later : {k : Refusal} → CheckedImage image outcomes walked reports₁ (Err k) o w reports₂ → {r : ℕ} → r ≡ 4294967296 * refusal_number k → {t : List ℕ} → t ≡ zeros (length reports) → Checked image outcomes walked reports r o w t
+    entry-refuses-later {k} h {r} q {t} et =
+        record { number = rw (is_whole accepts) (number whole (whole-leaves h)); outcomes-zero = h.outcomes-zero; walked-zero = h.walked-zero; report-bytes = rw (is_whole accepts) (bytes whole (whole-leaves h)) }
       where
-        number : (a : Result) → LeavesIf p reports₂ a → r ≡ result_number a
-        number (refused k) e = q ∙ ap (λ (n : ℕ). 4294967296 * n) e.0
-        number (done xs) e = absurd (z e.0)
+        number : (a : Found) → LeavesIf (Err k) reports₂ a → r ≡ result_number a
+        number (refused n) e = q ∙ ap (λ (n : ℕ). 4294967296 * n) e.0
+        number (done xs) e = absurd (err-ok e.0)
 
-        bytes : (a : Result) → LeavesIf p reports₂ a → t ≡ report_bytes (length reports) a
-        bytes (refused k) e = et
-        bytes (done xs) e = absurd (z e.0)
+        bytes : (a : Found) → LeavesIf (Err k) reports₂ a → t ≡ report_bytes (length reports) a
+        bytes (refused n) e = et
+        bytes (done xs) e = absurd (err-ok e.0)
 
     -- the reports stand in the table
-    pub entry-answers : p.refusal ≡ 0 → length reports₂ ≡ length reports → Checked image outcomes walked reports p.count o w reports₂
-    entry-answers z l =
-        record { number = rw is_whole (number whole whole-leaves); outcomes-zero = h.outcomes-zero; walked-zero = h.walked-zero; report-bytes = rw is_whole (bytes whole whole-leaves) }
+    pub entry-answers : {c : ℕ} → CheckedImage image outcomes walked reports₁ (Ok c) o w reports₂ → length reports₂ ≡ length reports → Checked image outcomes walked reports c o w reports₂
+    entry-answers {c} h l =
+        record { number = rw (is_whole accepts) (number whole (whole-leaves h)); outcomes-zero = h.outcomes-zero; walked-zero = h.walked-zero; report-bytes = rw (is_whole accepts) (bytes whole (whole-leaves h)) }
       where
-        number : (a : Result) → LeavesIf p reports₂ a → p.count ≡ result_number a
-        number (refused k) e = absurd (let y = e.1 in omega (arith, e.0, z))
-        number (done xs) e = e.1
+        number : (a : Found) → LeavesIf (Ok c) reports₂ a → c ≡ result_number a
+        number (refused k) e = absurd (let y = e.1 in omega (arith, e.0, y))
+        number (done xs) e = ok-count e.0
 
-        bytes : (a : Result) → LeavesIf p reports₂ a → reports₂ ≡ report_bytes (length reports) a
-        bytes (refused k) e = absurd (let y = e.1 in omega (arith, e.0, z))
-        bytes (done xs) e = e.2.bytes ∙ ap (λ (n : ℕ). laid n xs) l
+        bytes : (a : Found) → LeavesIf (Ok c) reports₂ a → reports₂ ≡ report_bytes (length reports) a
+        bytes (refused k) e = absurd (let y = e.1 in omega (arith, e.0, y))
+        bytes (done xs) e = e.1.bytes ∙ ap (λ (n : ℕ). laid n xs) l

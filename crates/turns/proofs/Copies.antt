@@ -1,11 +1,10 @@
 -- What one copy makes of a run: the state it goes on from, the ends of a greedy run, the state read off a period. Assumes nothing.
-use mathlib.Core.Path.{◌≡◌, refl, ap, subst⁻¹, ◌∙◌}
+use Rattle.std.specs.Prelude.{Option, Some}
+use mathlib.Core.Path.{◌≡◌, refl, ap, ◌∙◌}
 use mathlib.Core.Bool.{Bool, true, false, not, cond}
 use mathlib.Core.Option.{none, some}
-use Prim.Native.Nat.{ℕ, ◌+◌, ◌-◌, ◌%◌, ◌≤◌}
-use native.Mathlib.Nat.{mod-lt}
+use Prim.Native.Nat.{ℕ, ◌+◌, ◌-◌, ◌%◌}
 use native.Mathlib.Numerals.{add-one}
-use native.Mathlib.Omega.{arith}
 use Rattle.stack.specs.declared.AbsStack.{AbsStack}
 use Rattle.stack.specs.State.{max_len}
 use Rattle.stack.specs.State as S
@@ -14,16 +13,12 @@ use Rattle.stack.specs.Promise.{state_of, Is}
 use Rattle.machine.specs.Outcome.{joined, failed, of_opt}
 use Rattle.machine.specs.Outcome as M
 use Rattle.asking.specs.Runs.{next, ends}
-use Rattle.outcomes.specs.declared.Maybe.{Maybe}
-use Rattle.outcomes.specs.declared.Maybe.TheVariants.{Nothing, State}
 use Rattle.outcomes.specs.declared.Outcome.{Outcome}
 use Rattle.outcomes.specs.Promise.{maybe_of, outcome_of, IsMaybe, IsOutcome}
 use Rattle.outcomes.proofs.Made.{is_state, maybe-by}
 use Rattle.starts.specs.declared.Starts.{Starts}
 use Rattle.starts.specs.Promise.{At}
-use Rattle.turns.specs.declared.Ran.{Ran}
-use Rattle.turns.specs.declared.Went.{Went}
-use Rattle.turns.specs.Promise.{Ended, TurnedOnIf, TurnedOn}
+use Rattle.turns.specs.Promise.{Ended}
 
 -- an optional copy goes on from what an optional makes of it
 pub next-optional : {required : Bool} (at : AbsStack) (o : Outcome) {p : Outcome} → required ≡ false → IsOutcome (of_opt (state_of at) (outcome_of o)) p
@@ -35,38 +30,18 @@ ends-told : (first : Bool) (s e : S.State) (ok : M.Maybe) → joined ok (joined 
 ends-told true s e ok = refl
 ends-told false s e ok = refl
 
-pub ends_more : (first : Bool) (at e : AbsStack) (err ok : Maybe) {f v j r : Maybe} → err ≡ State e
+pub ends_more : (first : Bool) (at e : AbsStack) (err ok : Option AbsStack) {f v j r : Option AbsStack} → err ≡ Some e
     → IsMaybe (failed (maybe_of err) (state_of at)) f → IsMaybe (cond (not first) (some (state_of at)) none) v
     → IsMaybe (joined (maybe_of f) (maybe_of v)) j → IsMaybe (joined (maybe_of ok) (maybe_of j)) r
     → IsMaybe (ends first (state_of at) (maybe_of err) (maybe_of ok)) r
 ends_more first at e err ok q hf hv hj hr =
     rw q
     (maybe-by hr
-    (ap (joined (maybe_of ok)) (hj.maybe ∙ (λ i. joined ((hf.maybe ∙ ap (λ (m : Maybe). failed (maybe_of m) (state_of at)) q) i) (hv.maybe i)))
+    (ap (joined (maybe_of ok)) (hj.maybe ∙ (λ i. joined ((hf.maybe ∙ ap (λ (m : Option AbsStack). failed (maybe_of m) (state_of at)) q) i) (hv.maybe i)))
     ∙ ends-told first (state_of at) (state_of e) (maybe_of ok)))
 
--- a place inside the period
-pub inside-period : (left i : ℕ) → left % (i + 1) ≤ i
-inside-period left i = omega (arith, mod-lt left {m = i + 1} (omega arith))
-
 -- the state that stands there ends the run
-pub period-ended : {run : Starts} {i left count : ℕ} {e f : Bool} {at : AbsStack} {r : Went} {x : ℕ} {end : AbsStack}
-    → At run (i - left % (i + 1)) x → Is max_len (state_at x) end
-    → r ≡ record { ended = true; ran = record { refusal = 0; count = count; end = State end; empty = e; fails = f }; at = at }
-    → Ended run i left count e f at r
-period-ended {run} {i} {left} {count} {e} {f} {at} {r} {x} {end} a h q =
-    rw q
-    (record {
-      ended = refl;
-      refusal = refl;
-      reports = refl;
-      end = λ other. record { end = maybe-by (is_state h) (ap some (rw (add-one i) at (a.state other))); empty = refl; fails = refl };
-      stays = refl;
-    })
-
--- a run ends where its copy leaves no state, and else goes on from it
-pub turned-end : (q : Ran) {at : AbsStack} {r : Went} → q.end ≡ Nothing → r ≡ record { ended = true; ran = q; at = at } → TurnedOn q at r
-turned-end q {at} {r} e h = record { says = subst⁻¹ (TurnedOnIf q at r) e h }
-
-pub turned_on : (q : Ran) {at t : AbsStack} → q.end ≡ State t → TurnedOn q at (record { ended = false; ran = q; at = t })
-turned_on q {at} {t} e = record { says = subst⁻¹ (TurnedOnIf q at (record { ended = false; ran = q; at = t })) e refl }
+pub period-ended : {run : Starts} {i left : ℕ} {e f : Bool} {x : ℕ} {end : AbsStack}
+    → At run (i - left % (i + 1)) x → Is max_len (state_at x) end → Ended run i left e f (record { end = Some end; empty = e; fails = f })
+period-ended {run} {i} {left} {e} {f} {x} {end} a h =
+    record { end = λ other. record { end = maybe-by (is_state h) (ap some (rw (add-one i) at (a.state other))); empty = refl; fails = refl } }

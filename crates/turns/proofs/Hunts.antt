@@ -1,4 +1,5 @@
 -- What a turn that succeeded and consumed nothing makes of a search for a loop. Assumes nothing.
+use Rattle.std.specs.Prelude.{Option, Some, None}
 use mathlib.Core.Path.{◌≡◌, refl, sym, ap, subst⁻¹, ◌∙◌}
 use mathlib.Core.Bool.{Bool, true, false}
 use mathlib.Core.List.{List, ◌∷◌}
@@ -12,8 +13,7 @@ use Rattle.asking.specs.Runs.{any_same_top}
 use Rattle.outcomes.proofs.Within.{state-within}
 use Rattle.starts.specs.declared.Starts.{Starts}
 use Rattle.starts.specs.Promise.{starts_of, Begun, More}
-use Rattle.turns.specs.declared.Hunting.{Hunting}
-use Rattle.turns.specs.Promise.{found_so, HuntedIf, HuntedOn}
+use Rattle.turns.specs.Promise.{HuntedIf, HuntedOn}
 
 -- the number that a well-formed state is packed as
 pub packed-number : (s : AbsStack) {x : ℕ} → WellFormed max_len s → x ≡ number_of (state_of s) → NumberOfState max_len x
@@ -22,15 +22,14 @@ packed-number s h e = record { state = state_of s; within = state-within s h; nu
 packed-state : (s : AbsStack) {x : ℕ} → WellFormed max_len s → x ≡ number_of (state_of s) → state_at x ≡ state_of s
 packed-state s h e = rw e (state_at-number_of (state_of s) (state-within s h))
 
-hunted-by : {seen : Starts} {cur out : AbsStack} {count : ℕ} {r : Hunting} (intact again : Bool)
-    → out.intact ≡ intact → any_same_top (state_of out) (state_of cur ∷ starts_of seen) ≡ again → HuntedIf seen cur out count r intact again → HuntedOn seen cur out count r
-hunted-by {seen} {cur} {out} {count} {r} intact again p q h =
-    record { says = subst⁻¹ (λ (t : Bool). HuntedIf seen cur out count r t (any_same_top (state_of out) (state_of cur ∷ starts_of seen))) p (subst⁻¹ (HuntedIf seen cur out count r intact) q h) }
+hunted-by : {seen : Starts} {cur out : AbsStack} {r : Option Starts} (intact again : Bool)
+    → out.intact ≡ intact → any_same_top (state_of out) (state_of cur ∷ starts_of seen) ≡ again → HuntedIf seen cur r intact again → HuntedOn seen cur out r
+hunted-by {seen} {cur} {out} {r} intact again p q h =
+    record { says = subst⁻¹ (λ (t : Bool). HuntedIf seen cur r t (any_same_top (state_of out) (state_of cur ∷ starts_of seen))) p (subst⁻¹ (HuntedIf seen cur r intact) q h) }
 
 -- the list below the cut may have changed
-pub hunt-cleared : {seen : Starts} {cur out : AbsStack} {count : ℕ} {all : Starts} → out.intact ≡ false → Begun all
-    → HuntedOn seen cur out count (record { ended = false; found = found_so count false; cur = out; seen = all })
-hunt-cleared {seen} {cur} {out} e b = hunted-by false (any_same_top (state_of out) (state_of cur ∷ starts_of seen)) e refl (record { goes = refl; so = refl; from = refl; past = b })
+pub hunt-cleared : {seen : Starts} {cur out : AbsStack} {all : Starts} → out.intact ≡ false → Begun all → HuntedOn seen cur out (Some all)
+hunt-cleared {seen} {cur} {out} e b = hunted-by false (any_same_top (state_of out) (state_of cur ∷ starts_of seen)) e refl b
 
 -- the list below the cut is intact, and `again` says whether a start has come round
 module _ {seen all : Starts} {cur out : AbsStack} {x y : ℕ} {again : Bool}
@@ -43,8 +42,8 @@ module _ {seen all : Starts} {cur out : AbsStack} {x y : ℕ} {again : Bool}
       ∙ ap (λ (s : State). any_same_top s (starts_of all)) (packed-state out ho py)
       ∙ ap (λ (ss : List State). any_same_top (state_of out) ss) (m.starts ∙ ap (λ (s : State). s ∷ starts_of seen) (packed-state cur hc px)))
 
-  pub hunt-loops : {count : ℕ} → again ≡ true → HuntedOn seen cur out count (record { ended = true; found = found_so count true; cur = cur; seen = seen })
+  pub hunt-loops : again ≡ true → HuntedOn seen cur out None
   hunt-loops e = hunted-by true true intact (same_test ∙ e) refl
 
-  pub hunt-further : {count : ℕ} → again ≡ false → HuntedOn seen cur out count (record { ended = false; found = found_so count false; cur = out; seen = all })
-  hunt-further e = hunted-by true false intact (same_test ∙ e) (record { goes = refl; so = refl; from = refl; past = rw (← px) m })
+  pub hunt-further : again ≡ false → HuntedOn seen cur out (Some all)
+  hunt-further e = hunted-by true false intact (same_test ∙ e) (rw (← px) m)

@@ -1,9 +1,10 @@
 -- Each public function's promise settles its result and every lent byte: two results, and two lots of exit bytes, that fit it are equal. `Post` is the
 -- promise as the check reads it off the function's contract. Assumes nothing.
+use Rattle.std.specs.Prelude.{Option, Some, None, Result}
 use Prim.Native.Nat.{ℕ, ◌/◌}
 use lib.Dec.{eqb, ltb}
 use lib.ListN.{length, get_or}
-use mathlib.Core.Path.{◌≡◌, sym, ◌∙◌}
+use mathlib.Core.Path.{◌≡◌, sym, ap, ◌∙◌}
 use mathlib.Core.Bool.{Bool, true, false, ◌&&◌, not}
 use mathlib.Core.List.{List, ◌∷◌}
 use contract.Lifetimes.{Lfts}
@@ -14,24 +15,18 @@ use Rattle.stack.specs.State.{unknown}
 use Rattle.stack.specs.Number.{number_of}
 use Rattle.stack.specs.Promise.{state_of}
 use Rattle.image.specs.Grammar.{grammar}
+use Rattle.image.specs.declared.refusal.Refusal.{Refusal}
 use Rattle.asking.specs.Reading.{held_back}
 use Rattle.asking.specs.Runs.{any_same_top}
 use Rattle.tables.proofs.Unique.{set-word-unique}
-use Rattle.outcomes.specs.declared.Maybe.{Maybe}
-use Rattle.outcomes.specs.declared.Maybe.TheVariants as M
-use Rattle.outcomes.proofs.Unique.{is-maybe-unique, is-outcome-unique}
+use Rattle.outcomes.proofs.Unique.{is-maybe-unique}
 use Rattle.starts.specs.declared.Starts.{Starts}
 use Rattle.starts.specs.Promise.{starts_of}
 use Rattle.starts.proofs.Unique.{none-unique, add-unique}
 use Rattle.turns.specs.declared.Ran.{Ran}
-use Rattle.turns.specs.declared.Went.{Went}
-use Rattle.turns.specs.declared.Placed.{Placed}
-use Rattle.turns.specs.declared.Hunting.{Hunting}
-use Rattle.turns.specs.Promise.{Ended, TurnedOnIf, TurnedOn, HuntedIf, HuntedOn, ReportedIf, Reported}
+use Rattle.turns.specs.Promise.{Ended, HuntedIf, HuntedOn, ReportedIf, Reported}
 use Rattle.turns.proofs.key.Kinds as key
 use Rattle.turns.proofs.key.Reads as key-promise
-use Rattle.turns.proofs.wrap.Kinds as wrap
-use Rattle.turns.proofs.wrap.Reads as wrap-promise
 use Rattle.turns.proofs.restored.Kinds as restored
 use Rattle.turns.proofs.restored.Reads as restored-promise
 use Rattle.turns.proofs.next.Kinds as next
@@ -40,51 +35,32 @@ use Rattle.turns.proofs.ends.Kinds as ends
 use Rattle.turns.proofs.ends.Reads as ends-promise
 use Rattle.turns.proofs.ended.Kinds as ended
 use Rattle.turns.proofs.ended.Reads as ended-promise
-use Rattle.turns.proofs.turned.Kinds as turned
-use Rattle.turns.proofs.turned.Reads as turned-promise
 use Rattle.turns.proofs.hunt_on.Kinds as hunt-on
 use Rattle.turns.proofs.hunt_on.Reads as hunt-on-promise
 use Rattle.turns.proofs.report.Kinds as report
 use Rattle.turns.proofs.report.Reads as report-promise
 
 -- one run's end is read off a period
-ended-one : {run : Starts} {i left count : ℕ} {e f : Bool} {at : AbsStack} (r q : Went) → Ended run i left count e f at r → Ended run i left count e f at q → r ≡ q
+ended-one : {run : Starts} {i left : ℕ} {e f : Bool} (r q : Ran) → Ended run i left e f r → Ended run i left e f q → r ≡ q
 ended-one r q p h =
     let a = p.end unknown in
     let b = h.end unknown in
-    let end = is-maybe-unique r.ran.end q.ran.end a.end b.end in
-    let ran : r.ran ≡ q.ran =
-    λ i. record {
-      refusal = (p.refusal ∙ sym h.refusal) i;
-      count = (p.reports ∙ sym h.reports) i;
-      end = end i;
-      empty = (a.empty ∙ sym b.empty) i;
-      fails = (a.fails ∙ sym b.fails) i;
-    } in
-    λ i. record { ended = (p.ended ∙ sym h.ended) i; ran = ran i; at = (p.stays ∙ sym h.stays) i }
+    let end = is-maybe-unique r.end q.end a.end b.end in
+    λ i. record { end = end i; empty = (a.empty ∙ sym b.empty) i; fails = (a.fails ∙ sym b.fails) i }
 
-turned-one : {q : Ran} {at : AbsStack} (r t : Went) → TurnedOn q at r → TurnedOn q at t → r ≡ t
-turned-one {q} {at} r t p h = by q.end p.says h.says
+hunted-one : {seen : Starts} {cur out : AbsStack} (r t : Option Starts) → HuntedOn seen cur out r → HuntedOn seen cur out t → r ≡ t
+hunted-one {seen} {cur} {out} r t p h = by out.intact (any_same_top (state_of out) (state_of cur ∷ starts_of seen)) r t p.says h.says
   where
-    by : (m : Maybe) → TurnedOnIf q at r m → TurnedOnIf q at t m → r ≡ t
-    by M.Nothing a b = a ∙ sym b
-    by (M.State s) a b = a ∙ sym b
+    by : (intact again : Bool) (r t : Option Starts) → HuntedIf seen cur r intact again → HuntedIf seen cur t intact again → r ≡ t
+    by false again None t a b = absurd a
+    by false again (Some r) None a b = absurd b
+    by false again (Some r) (Some t) a b = ap Some (none-unique r t a b)
+    by true true r t a b = a ∙ sym b
+    by true false None t a b = absurd a
+    by true false (Some r) None a b = absurd b
+    by true false (Some r) (Some t) a b = ap Some (add-unique seen (number_of (state_of cur)) r t a b)
 
-hunting-one : {r t : Hunting} → r.ended ≡ t.ended → r.found ≡ t.found → r.cur ≡ t.cur → r.seen ≡ t.seen → r ≡ t
-hunting-one ended found cur seen = λ i. record { ended = ended i; found = found i; cur = cur i; seen = seen i }
-
-hunted-one : {seen : Starts} {cur out : AbsStack} {count : ℕ} (r t : Hunting) → HuntedOn seen cur out count r → HuntedOn seen cur out count t → r ≡ t
-hunted-one {seen} {cur} {out} {count} r t p h = by out.intact (any_same_top (state_of out) (state_of cur ∷ starts_of seen)) p.says h.says
-  where
-    by : (intact again : Bool) → HuntedIf seen cur out count r intact again → HuntedIf seen cur out count t intact again → r ≡ t
-    by false again a b =
-        hunting-one (a.goes ∙ sym b.goes) (a.so ∙ sym b.so) (a.from ∙ sym b.from) (none-unique r.seen t.seen a.past b.past)
-    by true true a b = a ∙ sym b
-    by true false a b =
-        hunting-one (a.goes ∙ sym b.goes) (a.so ∙ sym b.so) (a.from ∙ sym b.from)
-        (add-unique seen (number_of (state_of cur)) r.seen t.seen a.past b.past)
-
-reported-one : {image table marks : List ℕ} {count n part : ℕ} {s : AbsStack} {table' table'' marks' marks'' : List ℕ} (r t : Placed)
+reported-one : {image table marks : List ℕ} {count n part : ℕ} {s : AbsStack} {table' table'' marks' marks'' : List ℕ} (r t : Result ℕ Refusal)
     → Reported image table marks count n part s r table' marks' → Reported image table marks count n part s t table'' marks''
     → (r ≡ t) × (table' ≡ table'') × (marks' ≡ marks'')
 reported-one {image} {table} {marks} {count} {n} {part} {s} {table'} {table''} {marks'} {marks''} r t p h =
@@ -92,14 +68,9 @@ reported-one {image} {table} {marks} {count} {n} {part} {s} {table'} {table''} {
   where
     by : (due room : Bool) → ReportedIf count n (state_of s) table marks r table' marks' due room → ReportedIf count n (state_of s) table marks t table'' marks'' due room
         → (r ≡ t) × (table' ≡ table'') × (marks' ≡ marks'')
-    by false room a b = (a.is ∙ sym b.is, a.words ∙ sym b.words, a.marked ∙ sym b.marked)
-    by true false a b = (a.is ∙ sym b.is, a.words ∙ sym b.words, a.marked ∙ sym b.marked)
-    by true true a b = (a.is ∙ sym b.is, set-word-unique table count _ table' table'' a.words b.words, a.marked ∙ sym b.marked)
-
-pub wrap-unique :
-    (κs : Lfts 0) (a : Dens κs wrap.ps) (x y : (res_t wrap.r κs).Denot) (s t : AtExit (ended_of 0 wrap.ps wrap.r) κs) →
-    wrap-promise.Post κs a x s → wrap-promise.Post κs a y t → x ≡ y
-wrap-unique κs a x y s t p q = is-outcome-unique x y p q
+    by false room a b = (a.0 ∙ sym b.0, a.1.words ∙ sym b.1.words, a.1.marked ∙ sym b.1.marked)
+    by true false a b = (a.0 ∙ sym b.0, a.1.words ∙ sym b.1.words, a.1.marked ∙ sym b.1.marked)
+    by true true a b = (a.0 ∙ sym b.0, set-word-unique table count _ table' table'' a.1.words b.1.words, a.1.marked ∙ sym b.1.marked)
 
 pub restored-unique :
     (κs : Lfts 0) (a : Dens κs restored.ps) (x y : (res_t restored.r κs).Denot) (s t : AtExit (ended_of 0 restored.ps restored.r) κs) →
@@ -120,11 +91,6 @@ pub ended-unique :
     (κs : Lfts 0) (a : Dens κs ended.ps) (x y : (res_t ended.r κs).Denot) (s t : AtExit (ended_of 0 ended.ps ended.r) κs) →
     ended-promise.Post κs a x s → ended-promise.Post κs a y t → x ≡ y
 ended-unique κs a x y s t p q = ended-one x y p q
-
-pub turned-unique :
-    (κs : Lfts 0) (a : Dens κs turned.ps) (x y : (res_t turned.r κs).Denot) (s t : AtExit (ended_of 0 turned.ps turned.r) κs) →
-    turned-promise.Post κs a x s → turned-promise.Post κs a y t → x ≡ y
-turned-unique κs a x y s t p q = turned-one x y p q
 
 pub hunt-on-unique :
     (κs : Lfts 0) (a : Dens κs hunt-on.ps) (x y : (res_t hunt-on.r κs).Denot) (s t : AtExit (ended_of 0 hunt-on.ps hunt-on.r) κs) →

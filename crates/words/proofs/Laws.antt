@@ -1,46 +1,45 @@
--- Laws that the proofs of the words share: a line that is filled byte by byte, and one step of each definition by index. Assumes nothing.
+-- Laws that the proofs of the words share: lines made byte by byte, what is no number, one step of each definition by index. Assumes nothing.
 use mathlib.Core.Path.{◌≡◌, refl, sym, subst, ◌∙◌}
-use mathlib.Core.Bool.{Bool, true, false, cond, ◌||◌}
+use mathlib.Core.Bool.{Bool, true, false, cond}
 use mathlib.Core.List.{List, [], ◌∷◌}
 use Prim.Native.Nat.{ℕ, zero, suc, ◌+◌, ◌-◌, ◌≤◌, ◌<◌}
 use native.Mathlib.Numerals.{add-one}
 use native.Mathlib.Omega.{arith}
-use native.Mathlib.Decide.{ℕ_discrete}
-use borrow.Author.Tests.{eq-eqb, ne_eqb}
+use borrow.Author.Tests.{le-ltb}
+use denote.Param.Members.{Mut, Called}
 use lib.Dec.{eqb}
-use lib.ListN.{length, get_or, set, length-set}
-use lib.Seq.{ext_get_or, get_or-set_same, get_or-set_other}
+use lib.ListN.{length, get_or}
+use lib.Seq.{ext_get_or}
+use Rattle.std.proofs.Common.{None}
+use Rattle.std.proofs.lemmas.Bool.Decides.{nat_tests}
+use Rattle.std.specs.Array.{IsFromFnResult, IsFromFnResultFrom}
 use Rattle.image.specs.Lists.{up_to}
 use Rattle.image.specs.Grammar.{Grammar, expr_at, root_at}
 use Rattle.image.proofs.ListLaws.{up-length, up_at}
-use Rattle.words.specs.Line.{trimmed_to}
-use Rattle.words.specs.Number.{step, number_to}
-use Rattle.words.specs.Owner.{is_in, is_part, top_to, rule_to}
+use Rattle.words.specs.Line.{pad_to}
+use Rattle.words.specs.Texts.{Text}
+use Rattle.words.specs.Number.{step, number_to, number_if, number_of}
+use Rattle.words.specs.Owner.{is_part, top_to, rule_to}
 
--- the first i bytes of a line are those of f
-pub record Filled (f : ℕ → ℕ) (out : List ℕ) (i : ℕ) : Type 0 where
-  pub long : length out ≡ 64
-  pub few : i ≤ 64
-  pub each : (j : ℕ) → j < i → get_or out j 0 ≡ f j
+-- a list whose every element is that of f
+pub up_to-by_all : (f : ℕ → ℕ) (out : List ℕ) (n : ℕ) → length out ≡ n → ((j : ℕ) → j < n → get_or out j 0 ≡ f j) → out ≡ up_to f n
+up_to-by_all f out n l each =
+    ext_get_or 0 out (up_to f n) (l ∙ sym (up-length f n)) (λ j k. each j (omega (arith, k, l)) ∙ sym (up_at f n j 0 (omega (arith, k, l))))
 
-pub filled-start : (f : ℕ → ℕ) (out : List ℕ) → length out ≡ 64 → Filled f out 0
-filled-start f out l = record { long = l; few = omega arith; each = λ j k. absurd (omega (arith, k)) }
+-- a closure that leaves what it captures and answers h makes h's list
+from_fn_each : {F : Type 0} (g : Mut F (ℕ × Unit {0}) ℕ) (h : ℕ → ℕ) (f : F) (ys : List ℕ) (i n : ℕ) → IsFromFnResultFrom g f ys i n → ((k y : ℕ) (q : F) → Called g f (k, tt) y q → (q ≡ f) × (y ≡ h k)) → (k : ℕ) → k < n → get_or ys (i + k) 0 ≡ h (i + k)
+from_fn_each g h f ys i zero all by k l = absurd (omega (arith, l))
+from_fn_each g h f ys i (suc n) all by zero l =
+    let e : i + 0 ≡ i = omega arith in
+    let p = by i all.1 all.0 all.3 in
+    rw e (all.2.1 0 ∙ p.1)
+from_fn_each {F} g h f ys i (suc n) all by (suc k) l =
+    let e : i + suc k ≡ i + 1 + k = omega arith in
+    let rest : IsFromFnResultFrom g f ys (i + 1) n = subst (λ (q : F). IsFromFnResultFrom g q ys (i + 1) n) (by i all.1 all.0 all.3).0 all.4 in
+    rw e (from_fn_each g h f ys (i + 1) n rest by k (omega (arith, l)))
 
-pub filled_next : (f : ℕ → ℕ) (out : List ℕ) (i v : ℕ) → Filled f out i → i < 64 → v ≡ f i → Filled f (set out i v) (i + 1)
-filled_next f out i v h l e =
-    record {
-      long = length-set out i v ∙ h.long;
-      few = omega (arith, l);
-      each = λ j k. by j k (ℕ_discrete j i);
-    }
-  where
-    by : (j : ℕ) → j < i + 1 → Dec (j ≡ i) → get_or (set out i v) j 0 ≡ f j
-    by j k (yes q) = rw q (get_or-set_same out i v 0 (omega (arith, l, h.long)) ∙ e)
-    by j k (no n) = get_or-set_other out i j v 0 n ∙ h.each j (omega (arith, k, n))
-
-pub filled-end : (f : ℕ → ℕ) (out : List ℕ) (i : ℕ) → Filled f out i → 64 ≤ i → out ≡ up_to f 64
-filled-end f out i h l =
-    ext_get_or 0 out (up_to f 64) (h.long ∙ sym (up-length f 64)) (λ j k. h.each j (omega (arith, k, l, h.long)) ∙ sym (up_at f 64 j 0 (omega (arith, k, h.long))))
+pub up_to-from_fn : {F : Type 0} (g : Mut F (ℕ × Unit {0}) ℕ) (h : ℕ → ℕ) (f : F) (ys : List ℕ) (n : ℕ) → IsFromFnResult g f ys n → ((k y : ℕ) (q : F) → Called g f (k, tt) y q → (q ≡ f) × (y ≡ h k)) → ys ≡ up_to h n
+up_to-from_fn g h f ys n made by = up_to-by_all h ys n made.long (λ j l. let e : 0 + j ≡ j = omega arith in rw e at (from_fn_each g h f ys 0 n made.each by j l))
 
 -- inside a list what stands past its end is never read
 pub get_or-any : (l : List ℕ) (j d e : ℕ) → j < length l → get_or l j d ≡ get_or l j e
@@ -48,22 +47,27 @@ get_or-any [] j d e h = absurd (omega (arith, h))
 get_or-any (x ∷ l) zero d e h = refl
 get_or-any (x ∷ l) (suc j) d e h = get_or-any l j d e (omega (arith, h))
 
--- the last byte is no space
-pub trimmed-here : (text : List ℕ) (n : ℕ) → 0 < n → (get_or text (n - 1) 0 ≡ 32 → ⊥) → trimmed_to text n ≡ n
-trimmed-here text n l h =
-    let e : suc (n - 1) ≡ n = omega arith in
-    let last : trimmed_to text (suc (n - 1)) ≡ suc (n - 1) = rw (ne_eqb (get_or text (n - 1) 0) 32 h) in
-    subst (λ (x : ℕ). trimmed_to text x ≡ x) e last
+-- what is no number stays none
+step-past : (n b : ℕ) → 4294967296 ≤ n → 4294967296 ≤ step n b
+step-past n b h = grind (arith, nat_tests)
 
--- the last byte is a space
-pub trimmed-on : (text : List ℕ) (n : ℕ) → 0 < n → get_or text (n - 1) 0 ≡ 32 → trimmed_to text n ≡ trimmed_to text (n - 1)
-trimmed-on text n l h =
-    let e : suc (n - 1) ≡ n = omega arith in
-    let less : trimmed_to text (suc (n - 1)) ≡ trimmed_to text (n - 1) = rw (eq-eqb (get_or text (n - 1) 0) 32 h) in
-    subst (λ (x : ℕ). trimmed_to text x ≡ trimmed_to text (n - 1)) e less
+number-past : (text : List ℕ) (i d : ℕ) → 4294967296 ≤ number_to text i → 4294967296 ≤ number_to text (i + d)
+number-past text i zero h = let e : i + 0 ≡ i = omega arith in rw e h
+number-past text i (suc d) h =
+    let e : i + suc d ≡ suc (i + d) = omega arith in
+    rw e (step-past (number_to text (i + d)) (get_or text (i + d) 0) (number-past text i d h))
 
-pub number-next : (text : List ℕ) (i : ℕ) → number_to text (i + 1) ≡ step (number_to text i) (get_or text i 0)
-number-next text i = rw add-one
+number_if-none : (n : ℕ) → number_if n ≡ None → 4294967296 ≤ n
+number_if-none n h = grind (arith, nat_tests)
+
+number_if-past : (n : ℕ) → 4294967296 ≤ n → number_if n ≡ None
+number_if-past n h = rw (le-ltb n 4294967296 h)
+
+-- where a byte leads to no number, the text has none
+pub number-none : (text : List ℕ) (i : ℕ) → i < length text → number_if (step (number_to text i) (get_or text i 0)) ≡ None → number_of text ≡ None
+number-none text i l h =
+    let e : suc i + (length text - suc i) ≡ length text = omega (arith, l) in
+    number_if-past _ (rw e at (number-past text (suc i) (length text - suc i) (number_if-none _ h)))
 
 pub top-next : (g : Grammar) (n m : ℕ) → top_to g n (m + 1) ≡ cond (is_part (top_to g n m) (expr_at g m)) m (top_to g n m)
 unfolding top_to
@@ -73,25 +77,12 @@ pub rule-next : (g : Grammar) (root i : ℕ) → rule_to g root (i + 1) ≡ cond
 unfolding rule_to
 rule-next g root i = rw add-one
 
--- k is none of the first n numbers, as a match on them leaves it
-abbrev pub NoneOf : ℕ → ℕ → Type 0
-NoneOf k zero = Unit {0}
-NoneOf k (suc n) = NoneOf k n × (k ≡ n → ⊥)
+-- a text is itself, and its line is the text with spaces behind it
+pub said : (r : List ℕ) → Text r (pad_to 64 r) r
+said r = record { is = refl; padded = refl }
 
-pub past : (k n : ℕ) → NoneOf k n → n ≤ k
-past k zero h = omega arith
-past k (suc n) h = omega (arith, past k n h.0, h.1)
+pub cond-true : {b : Bool} {x : ℕ} (y : ℕ) → b ≡ true → x ≡ cond b x y
+cond-true y e = rw e
 
-or-false : (b : Bool) → b || false ≡ b
-or-false true = refl
-or-false false = refl
-
--- the parts of a node, one and two
-pub in_one : (n p : ℕ) → is_in n (p ∷ []) ≡ eqb p n
-in_one n p = or-false (eqb p n)
-
-pub in-two-left : (n p q : ℕ) → p ≡ n → is_in n (p ∷ q ∷ []) ≡ true
-in-two-left n p q h = rw (eq-eqb p n h)
-
-pub in-two-right : (n p q : ℕ) → (p ≡ n → ⊥) → is_in n (p ∷ q ∷ []) ≡ eqb q n
-in-two-right n p q h = rw (ne_eqb p n h) (or-false (eqb q n))
+pub cond-false : {b : Bool} (x : ℕ) {y : ℕ} → b ≡ false → y ≡ cond b x y
+cond-false x e = rw e

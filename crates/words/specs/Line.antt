@@ -11,7 +11,7 @@ bytes S.[] = []
 bytes (S.◌∷◌ c s) = code c ∷ bytes s
 
 -- the first n bytes of a text, with spaces behind it where it has fewer
-abbrev pub pad_to : ℕ → List ℕ → List ℕ
+unfoldable pub pad_to : ℕ → List ℕ → List ℕ
 pad_to zero text = []
 pad_to (suc n) [] = 32 ∷ pad_to n []
 pad_to (suc n) (b ∷ text) = b ∷ pad_to n text

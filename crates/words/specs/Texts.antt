@@ -1,11 +1,16 @@
 -- The texts by number. The lists begin at number 0; a number that is in none has the last text. Assumes nothing.
-use Rattle.std.specs.Prelude.{ℕ, List, [], ◌∷◌, get_or}
+use Rattle.std.specs.Prelude.{ℕ, ◌≡◌, List, [], ◌∷◌, get_or}
 use Prim.Native.String.{String}
 use Rattle.words.specs.Line.{bytes, pad_to}
 
--- the text of a number, with spaces behind it
-abbrev pub text_at : List String → String → ℕ → List ℕ
-text_at texts other k = pad_to 64 (bytes (get_or texts k other))
+-- the text of a number, as it is said
+abbrev pub said_at : List String → String → ℕ → List ℕ
+said_at texts other k = bytes (get_or texts k other)
+
+-- r is the text, and with spaces behind it the line
+pub record Text (text line r : List ℕ) : Type 0 where
+  pub is : r ≡ text
+  pub padded : pad_to 64 r ≡ line
 
 -- what a refusal means
 abbrev pub refusals : List String
@@ -26,8 +31,11 @@ refusals =
     ∷ "left recursion: a search from one rule entered 65537 nodes"
     ∷ []
 
-unfoldable pub refusal : ℕ → List ℕ
-refusal k = text_at refusals "no refusal has this number" k
+abbrev pub refusal_text : ℕ → List ℕ
+refusal_text k = said_at refusals "no refusal has this number" k
+
+abbrev pub refusal : ℕ → List ℕ
+refusal k = pad_to 64 (refusal_text k)
 
 -- the name of a reason
 abbrev pub reasons : List String
@@ -40,8 +48,11 @@ reasons =
     ∷ "left recursion"
     ∷ []
 
-unfoldable pub reason : ℕ → List ℕ
-reason k = text_at reasons "no reason has this number" k
+abbrev pub reason_text : ℕ → List ℕ
+reason_text k = said_at reasons "no reason has this number" k
+
+abbrev pub reason : ℕ → List ℕ
+reason k = pad_to 64 (reason_text k)
 
 -- a reason in a sentence
 abbrev pub whys : List String
@@ -54,8 +65,11 @@ whys =
     ∷ "This name leads back to its rule before the input has moved."
     ∷ []
 
-unfoldable pub why : ℕ → List ℕ
-why k = text_at whys "Nothing is known of it." k
+abbrev pub why_text : ℕ → List ℕ
+why_text k = said_at whys "Nothing is known of it." k
+
+abbrev pub why : ℕ → List ℕ
+why k = pad_to 64 (why_text k)
 
 -- the name of a kind
 abbrev pub kinds : List String
@@ -82,8 +96,11 @@ kinds =
     ∷ "NodeTag"
     ∷ []
 
-unfoldable pub kind : ℕ → List ℕ
-kind k = text_at kinds "no kind" k
+abbrev pub kind_text : ℕ → List ℕ
+kind_text k = said_at kinds "no kind" k
+
+abbrev pub kind : ℕ → List ℕ
+kind k = pad_to 64 (kind_text k)
 
 -- what lies below the tracked entries, by base + 4 × intact
 abbrev pub belows : List String
@@ -97,5 +114,8 @@ belows =
     ∷ "the entries with which the rule began"
     ∷ []
 
-unfoldable pub below : ℕ → List ℕ
-below k = text_at belows "no base has this number" k
+abbrev pub below_text : ℕ → List ℕ
+below_text k = said_at belows "no base has this number" k
+
+abbrev pub below : ℕ → List ℕ
+below k = pad_to 64 (below_text k)

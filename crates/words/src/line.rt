@@ -1,51 +1,42 @@
-// Names as lines that can be shown, and texts without the spaces behind them.
-ghost use Rattle.std.specs.Prelude.{◌≡◌, get_or};
+// Names as lines that can be shown, of a fixed size (there is no heap), and texts without the spaces behind them.
+ghost use Rattle.std.specs.Prelude.{◌≡◌, get_or, length, take};
 ghost use Rattle.words.specs.Line as Line;
 ghost use Rattle.words.specs.Line.{plain_line, Trimmed};
 
-// The byte at a place, a space past the end.
-fn spaced(text: &[u8], j: usize) -> u8
-    ensures { result ≡ get_or text.now j 32 }
-{
-    if j < text.len() { text[j] } else { 32 }
-}
+use std::array;
 
 // A byte that a terminal only shows: itself from space to tilde, else a question mark.
 fn plain(b: u8) -> u8
     ensures { result ≡ Line.plain b }
 {
-    if b < 32 {
-        63
-    } else if b < 127 {
-        b
-    } else {
-        63
+    match b {
+        b' '..=b'~' => b,
+        _ => b'?',
     }
+}
+
+// The byte of a name at a place as it is shown, a space past the end.
+fn shown_at(name: &[u8], j: usize) -> u8
+    ensures { result ≡ Line.plain (get_or name.now j 32) }
+{
+    name.get(j).map_or(b' ', |b| plain(*b))
 }
 
 // A name of an image, which can have any bytes, as a line that can be shown.
 pub fn shown(name: &[u8]) -> [u8; 64]
     ensures { result ≡ plain_line name.now }
 {
-    let mut out = [32u8; 64];
-    let mut j = 0;
-    while j < 64 {
-        out[j] = plain(spaced(name, j));
-        j += 1;
-    }
-    out
+    array::from_fn(|j| shown_at(name, j))
 }
 
-// How many bytes a text has without the spaces at its end.
-pub fn trimmed(text: &[u8]) -> usize
-    ensures { Trimmed text.now result }
+// A text without the spaces at its end.
+pub fn trimmed(text: &[u8]) -> &[u8]
+    ensures count { Trimmed text.now (length result.now) }
+    ensures part { result.now ≡ take (length result.now) text.now }
 {
-    let mut n = text.len();
-    while n > 0 {
-        if text[n - 1] != 32 {
-            return n;
-        }
-        n -= 1;
+    let mut kept = text;
+    while let [rest @ .., b' '] = kept {
+        kept = rest;
     }
-    0
+    kept
 }

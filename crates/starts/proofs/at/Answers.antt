@@ -5,18 +5,6 @@ use Prim.Native.Nat.{◌-◌}
 use Rattle.starts.proofs.Spots.{start-at}
 use Rattle.starts.proofs.at.Goals as goal
 
-pub overflow_sub-i : goal.overflow_sub-i
-overflow_sub-i c = omega (arith, c.requires.0.few)
-
-pub overflow_sub-i-2 : goal.overflow_sub-i-2
-overflow_sub-i-2 c = omega (arith, c.requires.0.few)
-
-pub offset_bounds-run-i : goal.offset_bounds-run-i
-offset_bounds-run-i c = omega (arith, c.requires.0.few)
-
-pub bounds-run-i : goal.bounds-run-i
-bounds-run-i c = omega (arith, c.requires.0.few)
-
 pub returns : goal.returns
 returns c = let run = c.args.run in
     let back = c.args.back in

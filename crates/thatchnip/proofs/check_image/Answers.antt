@@ -1,26 +1,19 @@
 -- `thatchnip::check_image` meets its contract. Assumes nothing.
-use mathlib.Core.Path.{refl, ◌∙◌}
+use Rattle.std.proofs.lemmas.Result.{err_from_is_err_and}
 use Rattle.image.specs.Grammar.{grammar}
+use Rattle.image.proofs.GrammarLaws.{accepted}
 use Rattle.thatchnip.proofs.Entry.{rules-named, image-refuses, half-holds, image-answers}
 use Rattle.thatchnip.proofs.check_image.Goals as goal
 
-pub resolve-requires : goal.resolve-requires
-resolve-requires c = record { accepted = c.requires.0; long = refl }
-
-pub first_passes-first-requires : goal.first_passes-first-requires
-first_passes-first-requires c = (record { accepted = c.requires.0; resolved = c.resolve.ensures }, c.requires.1)
-
-pub returns-then-first-ne0 : goal.returns-then-first-ne0
-returns-then-first-ne0 c = image-refuses c.first_passes-first.auto.reports c.first_passes-first.ensures c.if-first-ne0.true
-
-pub only_rules-requires : goal.only_rules-requires
-only_rules-requires c = c.resolve.ensures.long
+pub returns-in_err-count : goal.returns-in_err-count
+returns-in_err-count c =
+    let p = err_from_is_err_and c.from_residual.result c.from_residual.ensures.1 in
+    rw (p.1, p.2) (image-refuses _ _ _ _ c.in_err-count.ensures)
 
 pub last_passes-requires : goal.last_passes-requires
-last_passes-requires c = (c.requires.0, rules-named (grammar c.args.image.now) _ _ c.requires.0.formed c.resolve.ensures c.only_rules.ensures, (half-holds c.first_passes-first.auto.reports c.first_passes-first.ensures c.if-first-ne0.false).0, (half-holds c.first_passes-first.auto.reports c.first_passes-first.ensures c.if-first-ne0.false).1)
-
-pub shape_of-reports : goal.shape_of-reports
-shape_of-reports c = c.last_passes.auto.reports ∙ c.first_passes-first.auto.reports
+last_passes-requires c =
+    let h = half-holds _ _ _ _ _ _ _ _ c.first_passes.auto.reports c.in_ok-count.ensures in
+    (rules-named (grammar c.args.image.bytes.now) _ _ (accepted _ c.args.image.accepted).formed c.resolve.ensures c.only_rules.ensures, h.0, h.1)
 
 pub returns : goal.returns
-returns c = image-answers c.first_passes-first.auto.reports c.first_passes-first.ensures c.if-first-ne0.false c.last_passes.ensures
+returns c = image-answers _ _ _ _ _ _ _ _ c.first_passes.auto.reports c.in_ok-count.ensures c.last_passes.ensures

@@ -1,28 +1,22 @@
 -- `thatchnip::last_passes` meets its contract. Assumes nothing.
-use mathlib.Core.Path.{◌∙◌}
-use Rattle.thatchnip.proofs.Entry.{last-ten, last-refuses, last-room, last-answers}
+use Rattle.std.proofs.lemmas.Result.{err_from_is_err_and}
+use Rattle.thatchnip.proofs.Entry.{choices-refused, left-refused, last-room, last-answers}
 use Rattle.thatchnip.proofs.last_passes.Goals as goal
 
-pub run-count4-requires : goal.run-count4-requires
-run-count4-requires c = c.requires.0
+pub returns-in_err-count : goal.returns-in_err-count
+returns-in_err-count c =
+    let p = err_from_is_err_and c.from_residual.result c.from_residual.ensures.1 in
+    rw (p.1, p.2) (choices-refused c.args.image.bytes.now _ _ c.requires.1 c.requires.2 c.in_err-count.ensures)
 
-pub returns-then-reports-count4 : goal.returns-then-reports-count4
-returns-then-reports-count4 c = last-ten c.args.image.now c.requires.2 c.requires.3 c.run-count4.auto.table c.run-count4.ensures c.if-reports-count4.true
-
-pub run-p-requires : goal.run-p-requires
-run-p-requires c = (c.requires.0, c.requires.1)
-
-pub shape_of-reports-then-p-ne0 : goal.shape_of-reports-then-p-ne0
-shape_of-reports-then-p-ne0 c = c.run-p.auto.table ∙ c.run-count4.auto.table
-
-pub returns-then-p-ne0 : goal.returns-then-p-ne0
-returns-then-p-ne0 c = last-refuses c.args.image.now c.requires.2 c.requires.3 c.run-count4.auto.table c.run-count4.ensures c.if-reports-count4.false c.run-p.ensures c.if-p-ne0.true
+pub returns-in_err-count-2 : goal.returns-in_err-count-2
+returns-in_err-count-2 c =
+    let p = err_from_is_err_and c.from_residual-in_err-count-2.result c.from_residual-in_err-count-2.ensures.1 in
+    rw (p.1, p.2) (left-refused c.args.image.bytes.now _ _ c.requires.1 c.requires.2 _ _ c.validate_choices.auto.table c.in_ok-count.ensures c.in_err-count-2.ensures)
 
 pub sort-requires : goal.sort-requires
-sort-requires c = (c.requires.0, last-room c.args.image.now c.requires.2 c.requires.3 c.run-count4.auto.table c.run-count4.ensures c.if-reports-count4.false c.run-p.ensures c.if-p-ne0.false)
-
-pub shape_of-reports : goal.shape_of-reports
-shape_of-reports c = c.sort.auto.table ∙ c.run-p.auto.table ∙ c.run-count4.auto.table
+sort-requires c =
+    last-room c.args.image.bytes.now _ _ c.requires.1 c.requires.2 _ _ c.validate_choices.auto.table c.in_ok-count.ensures _ _ c.in_ok-count-2.ensures
 
 pub returns : goal.returns
-returns c = last-answers c.args.image.now c.requires.2 c.requires.3 c.run-count4.auto.table c.run-count4.ensures c.if-reports-count4.false c.run-p.ensures c.if-p-ne0.false c.sort.ensures
+returns c =
+    last-answers c.args.image.bytes.now _ _ c.requires.1 c.requires.2 _ _ c.validate_choices.auto.table c.in_ok-count.ensures _ _ c.in_ok-count-2.ensures c.sort.ensures

@@ -2,5 +2,5 @@
 use Rattle.turns.proofs.Copies.{next-optional}
 use Rattle.turns.proofs.next.Goals as goal
 
-pub returns : goal.returns
-returns c = next-optional c.args.at c.args.o c.if-required.false c.of_opt-p.ensures
+pub returns-else-required : goal.returns-else-required
+returns-else-required c = next-optional c.args.at c.args.o c.if-required.false c.of_opt.ensures

@@ -1,17 +1,8 @@
--- `image::clauses::any_bad_rule` meets its contract. The invariant: no rule below `i` is bad. Assumes nothing.
-use native.Mathlib.Omega.{arith}
-use mathlib.Core.Path.{sym, ◌∙◌}
-use Rattle.image.proofs.Tests.{any_none, any-more, any_at, any-end}
+-- `image::clauses::any_bad_rule` meets its contract. Assumes nothing.
+use Rattle.std.proofs.Common.{rules}
+use Rattle.image.specs.Refusal.{bad_rule}
+use Rattle.image.proofs.RangeLaws.{any_range}
 use Rattle.image.proofs.clauses.any_bad_rule.Goals as goal
 
-pub loop-i-init : goal.loop-i-init
-loop-i-init c = (omega arith, any_none _)
-
-pub returns-then-bad_rule : goal.returns-then-bad_rule
-returns-then-bad_rule c = sym (any_at _ _ c.loop-i.i (omega arith) (sym c.bad_rule.ensures ∙ c.if-bad_rule.true))
-
-pub loop-i-preserved : goal.loop-i-preserved
-loop-i-preserved c = (omega arith, any-more _ _ c.loop-i.invariant.1 (sym c.bad_rule.ensures ∙ c.if-bad_rule.false))
-
 pub returns : goal.returns
-returns c = any-end _ _ _ c.loop-i.invariant.1 (omega arith)
+returns c = any_range (bad_rule c.args.frame.now) _ c.rule_count.result _ (cc) (cc) c.any.ensures.ran (λ x b q k. search rules)

@@ -1,12 +1,8 @@
 -- `image::marks::mark_roots` meets its contract. The invariant: the marks tally the roots of the rules below `i` and all parts. Assumes nothing.
 use mathlib.Core.List.{◌++◌}
-use Prim.Native.Nat.{◌≤◌, ◌-◌}
 use Rattle.image.specs.Layout.{node_count}
 use Rattle.image.specs.Tally.{Tally, parts_below, roots_below}
 use Rattle.image.proofs.marks.mark_roots.Given as goal
 
 abbrev pub invariant-loop-i : goal.invariant-loop-i
-invariant-loop-i l = (l.i ≤ l.n) × Tally l.marks (roots_below l.image l.i ++ parts_below l.image (node_count l.image))
-
-abbrev pub decreases-loop-i : goal.decreases-loop-i
-decreases-loop-i l = l.n - l.i
+invariant-loop-i l = Tally l.marks (roots_below l.rules l.i ++ parts_below l.rules (node_count l.rules))

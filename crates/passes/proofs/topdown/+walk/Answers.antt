@@ -1,47 +1,39 @@
--- `passes::topdown::walk` calls itself: what its steps need. Assumes nothing.
-use native.Mathlib.Omega.{arith}
-use mathlib.Core.Path.{◌∙◌}
+-- `passes::topdown::walk` calls itself: what its returns come to. Assumes nothing.
+use Rattle.std.proofs.lemmas.Result.{err_from_is_err_and}
 use Rattle.image.specs.Grammar.{grammar}
-use Rattle.image.specs.declared.expr.Parts.TheVariants.{One, Two}
-use Rattle.passes.specs.Steps.{reports_at, PartsDown}
-use Rattle.passes.proofs.Downs.{walk-leaf, walk-one, walk-two}
+use Rattle.image.proofs.GrammarLaws.{formed}
+use Rattle.passes.specs.Promise.{held}
+use Rattle.passes.proofs.Downs.{walk-early, walk-leaf, walk-one, walk-two-early, walk-two}
 use Rattle.passes.proofs.topdown.+walk.Goals as goal
 
-pub note-here-requires : goal.note-here-requires
-note-here-requires t c = c.requires
-
-pub parts_down-parts-requires : goal.parts_down-parts-requires
-parts_down-parts-requires t c = c.requires
-
-pub walk-requires : goal.walk-requires
-walk-requires t c = let g = grammar c.args.image.now in
-    let d : PartsDown g c.args.n (One c.in-One.part) = rw c.in-One.is at c.parts_down-parts.ensures in
-    (omega (arith, d.below.0, c.decreases), record { accepted = c.requires.accepted; node = omega (arith, d.below.0, c.requires.node) })
-
-pub walk-there-requires : goal.walk-there-requires
-walk-there-requires t c = let g = grammar c.args.image.now in
-    let d : PartsDown g c.args.n (Two c.in-Two.left c.in-Two.right) = rw c.in-Two.is at c.parts_down-parts.ensures in
-    (omega (arith, d.below.0, c.decreases), record { accepted = c.requires.accepted; node = omega (arith, d.below.0, c.requires.node) })
-
-pub walk-requires-in-Two : goal.walk-requires-in-Two
-walk-requires-in-Two t c = let g = grammar c.args.image.now in
-    let d : PartsDown g c.args.n (Two c.in-Two.left c.in-Two.right) = rw c.in-Two.is at c.parts_down-parts.ensures in
-    (omega (arith, d.below.1.0, c.decreases), record { accepted = c.requires.accepted; node = omega (arith, d.below.1.0, c.requires.node) })
+pub returns-in_err-here : goal.returns-in_err-here
+returns-in_err-here g t c =
+    λ due finds.
+    walk-early (grammar c.args.image.bytes.now) c.args.n due (held c.args.table.now c.args.count) _ _ _ _ c.in_err-here.was (err_from_is_err_and c.from_residual.result c.from_residual.ensures.1)
+    (c.note.ensures (due c.args.n) (λ r p. finds c.args.n r c.requires.at p))
 
 pub returns-in-Leaf : goal.returns-in-Leaf
-returns-in-Leaf t c = let g = grammar c.args.image.now in
-    walk-leaf g c.requires.accepted.formed c.args.n c.requires.node (reports_at g c.args.choices) _ _ c.note-here.ensures (rw c.in-Leaf.is at c.parts_down-parts.ensures)
-
-pub shape_of-table-in-One : goal.shape_of-table-in-One
-shape_of-table-in-One t c = c.walk.auto.table ∙ c.note-here.auto.table
+returns-in-Leaf g t c =
+    λ due finds.
+    walk-leaf (grammar c.args.image.bytes.now) (formed _ c.args.image.accepted) c.args.n c.requires.at due (held c.args.table.now c.args.count) c.in_ok-here.here c.note.new.table
+    (c.in_ok-here.ensures (due c.args.n) (λ r p. finds c.args.n r c.requires.at p)) (rw c.in-Leaf.is at c.parts_down.ensures)
 
 pub returns-in-One : goal.returns-in-One
-returns-in-One t c = let g = grammar c.args.image.now in
-    walk-one g c.requires.accepted.formed c.args.n c.requires.node (reports_at g c.args.choices) _ _ c.note-here.ensures c.in-One.part _ (rw c.in-One.is at c.parts_down-parts.ensures) c.walk.ensures
+returns-in-One g t c =
+    λ due finds.
+    walk-one (grammar c.args.image.bytes.now) (formed _ c.args.image.accepted) c.args.n c.requires.at due (held c.args.table.now c.args.count) c.in_ok-here.here c.note.new.table
+    (c.in_ok-here.ensures (due c.args.n) (λ r p. finds c.args.n r c.requires.at p)) c.in-One.part (rw c.in-One.is at c.parts_down.ensures) _ _ (c.walk.ensures due finds)
 
-pub shape_of-table-in-Two : goal.shape_of-table-in-Two
-shape_of-table-in-Two t c = c.walk-in-Two.auto.table ∙ c.walk-there.auto.table ∙ c.note-here.auto.table
+pub returns-in_err-there-in-Two : goal.returns-in_err-there-in-Two
+returns-in_err-there-in-Two g t c =
+    λ due finds.
+    walk-two-early (grammar c.args.image.bytes.now) (formed _ c.args.image.accepted) c.args.n c.requires.at due (held c.args.table.now c.args.count) c.in_ok-here.here c.note.new.table
+    (c.in_ok-here.ensures (due c.args.n) (λ r p. finds c.args.n r c.requires.at p)) c.in-Two.left c.in-Two.right (rw c.in-Two.is at c.parts_down.ensures) _ _ _ _
+    c.in_err-there-in-Two.was (err_from_is_err_and c.from_residual-in_err-there-in-Two.result c.from_residual-in_err-there-in-Two.ensures.1) (c.walk-in-Two.ensures due finds)
 
-pub returns-in-Two : goal.returns-in-Two
-returns-in-Two t c = let g = grammar c.args.image.now in
-    walk-two g c.requires.accepted.formed c.args.n c.requires.node (reports_at g c.args.choices) _ _ c.note-here.ensures c.in-Two.left c.in-Two.right _ _ (rw c.in-Two.is at c.parts_down-parts.ensures) c.walk-there.ensures c.walk-in-Two.ensures
+pub returns-in_ok-there-in-Two : goal.returns-in_ok-there-in-Two
+returns-in_ok-there-in-Two g t c =
+    λ due finds.
+    walk-two (grammar c.args.image.bytes.now) (formed _ c.args.image.accepted) c.args.n c.requires.at due (held c.args.table.now c.args.count) c.in_ok-here.here c.note.new.table
+    (c.in_ok-here.ensures (due c.args.n) (λ r p. finds c.args.n r c.requires.at p)) c.in-Two.left c.in-Two.right (rw c.in-Two.is at c.parts_down.ensures)
+    c.in_ok-there-in-Two.there c.walk-in-Two.new.table (c.in_ok-there-in-Two.ensures due finds) _ _ (c.walk-in-Two-2.ensures due finds)

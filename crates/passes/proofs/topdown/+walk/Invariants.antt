@@ -2,4 +2,4 @@
 use Rattle.passes.proofs.topdown.+walk.Given as goal
 
 abbrev pub decreases-walk : goal.decreases-walk
-decreases-walk l = l.n
+decreases-walk g l = l.n

@@ -1,18 +1,16 @@
 -- `passes::topdown::judged_side` meets its contract. Assumes nothing.
 use native.Mathlib.Omega.{arith}
-use mathlib.Core.Path.{ap, ◌∙◌}
-use Rattle.image.specs.Kinds.{numbers_of}
+use mathlib.Core.Path.{sym, ap, ◌∙◌}
 use Rattle.image.specs.Grammar.{grammar}
-use Rattle.passes.proofs.Downs.{sides-below, side_right, side-self}
+use Rattle.passes.specs.TopDown.{is_choice}
+use Rattle.passes.proofs.Downs.{no-choice, side_right, side-self}
 use Rattle.passes.proofs.topdown.judged_side.Goals as goal
 
-pub returns-then-v-eq9 : goal.returns-then-v-eq9
-returns-then-v-eq9 c = let g = grammar c.args.image.now in
-    let is = c.numbers_in-v.ensures ∙ ap numbers_of c.expr_at.ensures.is in
-    let low = sides-below c.args.left c.expr_at.result c.numbers_in-v.result c.numbers_in-v.ensures c.expr_at.ensures.below c.if-v-eq9.true in
-    (side_right g c.args.left c.numbers_in-v.result is c.if-v-eq9.true, omega (arith, low.1, c.requires.node))
+pub returns-in-Choice : goal.returns-in-Choice
+returns-in-Choice c =
+    let at = c.in-Choice.ensures in
+    (side_right (grammar c.args.image.bytes.now) c.args.left _ c.in-Choice.right (sym at.is), omega (arith, at.below.1.0, c.requires))
 
-pub returns-else-v-eq9 : goal.returns-else-v-eq9
-returns-else-v-eq9 c = let g = grammar c.args.image.now in
-    let is = c.numbers_in-v.ensures ∙ ap numbers_of c.expr_at.ensures.is in
-    (side-self g c.args.left c.numbers_in-v.result is c.if-v-eq9.false, c.requires.node)
+pub returns-in_default : goal.returns-in_default
+returns-in_default c =
+    (side-self (grammar c.args.image.bytes.now) c.args.left (ap is_choice (sym c.expr_at.ensures.is) ∙ no-choice c.expr_at.result c.in_default.not-Choice), c.requires)

@@ -1,34 +1,25 @@
 -- `reading::names::name_at` meets its contract. Assumes nothing.
+use Rattle.std.specs.Prelude.{Some}
 use mathlib.Core.Path.{sym, ◌∙◌}
-use Rattle.reading.proofs.NameLaws.{rule-read-below, kind-is-builtin, kind-is-found}
+use native.Mathlib.Omega.{arith}
+use Rattle.image.proofs.GrammarLaws.{formed}
+use Rattle.reading.proofs.NameLaws.{rule-read-below, is-builtin, kind-told, kind-found}
 use Rattle.reading.proofs.names.name_at.Goals as goal
+
+pub builtin_at-requires : goal.builtin_at-requires
+builtin_at-requires c = omega (arith, c.requires.node, (formed _ c.args.names.image.accepted).few-nodes)
+
+pub rule_at-requires : goal.rule_at-requires
+rule_at-requires c = omega (arith, c.requires.node, (formed _ c.args.names.image.accepted).few-nodes)
 
 pub found_name-requires : goal.found_name-requires
 found_name-requires c = let p = c.requires in
-    record { accepted = p.ready.accepted; rule = rule-read-below _ _ _ _ _ p.ready p.node p.ident _ c.rule_at.ensures }
+    rule-read-below _ _ _ _ _ c.args.names.image.accepted c.args.names.resolved p.node p.ident _ c.rule_at.ensures
 
-pub returns-in-1 : goal.returns-in-1
-returns-in-1 c = let p = c.requires in
-    record { is = sym (kind-is-builtin _ _ _ _ _ p.ready p.node p.ident 1 c.in-1.is); below = tt }
+pub returns-in-Some : goal.returns-in-Some
+returns-in-Some c = let p = c.requires in
+    record { is = is-builtin _ c.in-Some.builtin ∙ sym (kind-told _ _ _ _ _ c.args.names.image.accepted c.args.names.resolved p.node p.ident _ c.builtin_at.ensures (Some c.in-Some.builtin) c.in-Some.is); below = tt }
 
-pub returns-in-2 : goal.returns-in-2
-returns-in-2 c = let p = c.requires in
-    record { is = sym (kind-is-builtin _ _ _ _ _ p.ready p.node p.ident 2 c.in-2.is); below = tt }
-
-pub returns-in-3 : goal.returns-in-3
-returns-in-3 c = let p = c.requires in
-    record { is = sym (kind-is-builtin _ _ _ _ _ p.ready p.node p.ident 3 c.in-3.is); below = tt }
-
-pub returns-in-4 : goal.returns-in-4
-returns-in-4 c = let p = c.requires in
-    record { is = sym (kind-is-builtin _ _ _ _ _ p.ready p.node p.ident 4 c.in-4.is); below = tt }
-
-pub returns-in-5 : goal.returns-in-5
-returns-in-5 c = let p = c.requires in
-    record { is = sym (kind-is-builtin _ _ _ _ _ p.ready p.node p.ident 5 c.in-5.is); below = tt }
-
-pub returns-in_default : goal.returns-in_default
-returns-in_default c = let p = c.requires in
-    let rest = c.in_default.in_default-own.rest in
-    let is = kind-is-found _ _ _ _ _ p.ready p.node p.ident _ c.rule_at.ensures rest.0.0.0.0.1 rest.0.0.0.1 rest.0.0.1 rest.0.1 rest.1 in
-    record { is = c.found_name.ensures.is ∙ is; below = c.found_name.ensures.below }
+pub returns-in-None : goal.returns-in-None
+returns-in-None c = let p = c.requires in
+    record { is = c.found_name.ensures.is ∙ kind-found _ _ _ _ _ c.args.names.image.accepted c.args.names.resolved p.node p.ident _ c.builtin_at.ensures _ c.rule_at.ensures c.in-None.is; below = c.found_name.ensures.below }

@@ -1,7 +1,11 @@
 -- `stack::AbsStack::all_blank` meets its contract. Assumes nothing.
-use mathlib.Core.Path.{◌∙◌}
+use native.Mathlib.Omega.{arith}
+use Rattle.std.proofs.lemmas.Bool.Decides.{nat_tests}
 use Rattle.stack.proofs.Fields.{all-blank-law}
 use Rattle.stack.proofs.AbsStack.all_blank.Goals as goal
 
-pub returns : goal.returns
-returns c = c.and.ensures ∙ rw (c.not_any.ensures, c.mask.ensures) (all-blank-law c.args.self c.requires)
+pub returns-then-ne : goal.returns-then-ne
+returns-then-ne c = rw c.mask.ensures (grind (arith, nat_tests, all-blank-law c.args.self c.requires, c.ne.ensures))
+
+pub returns-else-ne : goal.returns-else-ne
+returns-else-ne c = grind (arith, nat_tests, all-blank-law c.args.self c.requires, c.ne.ensures)

@@ -1,10 +1,13 @@
 -- `stack::AbsStack::top_blank` meets its contract. Assumes nothing.
+use mathlib.Core.Path.{◌∙◌, ap}
+use mathlib.Core.Bool.{not}
 use native.Mathlib.Omega.{arith}
+use borrow.Author.Tests.{eq-eqb}
 use Rattle.stack.proofs.Fields.{top-law, top-none}
 use Rattle.stack.proofs.AbsStack.top_blank.Goals as goal
 
-pub returns-then-len-eq0 : goal.returns-then-len-eq0
-returns-then-len-eq0 c = top-none c.args.self c.if-len-eq0.true
+pub returns-then-self-ne0 : goal.returns-then-self-ne0
+returns-then-self-ne0 c = top-law c.args.self (omega arith)
 
-pub returns-else-len-eq0 : goal.returns-else-len-eq0
-returns-else-len-eq0 c = top-law c.args.self (omega arith)
+pub returns-else-self-ne0 : goal.returns-else-self-ne0
+returns-else-self-ne0 c = ap not (eq-eqb _ _ c.if-self-ne0.false) ∙ top-none c.args.self c.if-self-ne0.false

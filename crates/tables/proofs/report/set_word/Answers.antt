@@ -4,4 +4,4 @@ use Rattle.tables.proofs.Words.{stored}
 use Rattle.tables.proofs.report.set_word.Goals as goal
 
 pub returns : goal.returns
-returns c = rw c.write8.ensures (stored c.args.t.now c.args.i c.args.x c.requires (omega arith))
+returns c = rw c.write.ensures (stored c.args.t.now c.args.i c.args.x c.requires (omega arith))

@@ -4,4 +4,4 @@ use Rattle.tables.proofs.Words.{words-at}
 use Rattle.tables.proofs.report.word_at.Goals as goal
 
 pub returns : goal.returns
-returns c = c.read8.ensures ∙ sym (words-at c.args.t.now c.args.i c.requires)
+returns c = c.read.ensures.value ∙ sym (words-at c.args.t.now c.args.i c.requires)

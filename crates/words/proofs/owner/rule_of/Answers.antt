@@ -1,35 +1,16 @@
 -- `words::owner::rule_of` meets its contract: the invariant is that `rule` is the one among those below i. Assumes nothing.
-use mathlib.Core.Path.{◌≡◌, refl, ap, ◌∙◌}
-use native.Mathlib.Omega.{arith}
-use Prim.Native.Nat.{◌≤◌, ◌-◌}
-use lib.ListN.{length}
+use borrow.Author.Tests.{eq-eqb, ne_eqb}
+use Rattle.std.proofs.Common.{refl, ◌∙◌}
 use Rattle.image.specs.Grammar.{grammar}
 use Rattle.words.specs.Owner.{rule_to}
-use Rattle.words.proofs.Laws.{rule-next}
+use Rattle.words.proofs.Laws.{rule-next, cond-true, cond-false}
+use Rattle.words.proofs.owner.rule_of.Goals.{then-root_at-root, else-root_at-root}
 use Rattle.words.proofs.owner.rule_of.Goals as goal
-
-pub rule_count-count-requires : goal.rule_count-count-requires
-rule_count-count-requires c = c.requires
 
 pub loop-i-init : goal.loop-i-init
 unfolding rule_to
-loop-i-init c = (omega arith, refl)
-
-pub root_at-requires : goal.root_at-requires
-root_at-requires c = record { accepted = c.requires; rule = omega arith }
-
-pub chosen-rule-requires : goal.chosen-rule-requires
-chosen-rule-requires c = tt
-
-pub overflow_add-i : goal.overflow_add-i
-overflow_add-i c = omega arith
-
-pub loop-i-smaller : goal.loop-i-smaller
-loop-i-smaller c = omega arith
+loop-i-init c = refl
 
 pub loop-i-preserved : goal.loop-i-preserved
-loop-i-preserved c = (omega arith, rw (rule-next, ← c.loop-i.invariant.1, ← c.root_at.ensures.is) c.chosen-rule.ensures)
-
-pub returns : goal.returns
-returns c = let e : c.loop-i.i ≡ length (grammar c.args.image.now).rules = omega arith in
-    c.loop-i.invariant.1 ∙ ap (rule_to (grammar c.args.image.now) c.args.root) e
+loop-i-preserved c = rw (rule-next (grammar c.args.image.bytes.now) c.args.root c.loop-i.i, ← c.loop-i.invariant, ← c.root_at.ensures.is)
+    (elim c.if-root_at-root.branch [ then-root_at-root w ↦ w.rule-is ∙ cond-true _ (eq-eqb _ _ w.if-root_at-root.true) | else-root_at-root w ↦ w.rule-is ∙ cond-false _ (ne_eqb _ _ w.if-root_at-root.false) ])

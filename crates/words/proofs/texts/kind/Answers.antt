@@ -1,89 +1,69 @@
 -- `words::texts::kind` meets its contract, text by text. Assumes nothing.
+use native.Mathlib.Omega.{arith}
 use lib.ListN.{get_or-eq_default}
-use Rattle.words.proofs.Laws.{past}
-use Rattle.words.specs.Texts.{kind, kinds}
+use Rattle.words.specs.Texts.{kinds}
+use Rattle.words.proofs.Laws.{said}
 use Rattle.words.proofs.texts.kind.Goals as goal
 
 pub returns-in-0 : goal.returns-in-0
-unfolding kind
-returns-in-0 c = rw c.in-0.is
+returns-in-0 c = rw c.in-0.is (said _)
 
 pub returns-in-1 : goal.returns-in-1
-unfolding kind
-returns-in-1 c = rw c.in-1.is
+returns-in-1 c = rw c.in-1.is (said _)
 
 pub returns-in-2 : goal.returns-in-2
-unfolding kind
-returns-in-2 c = rw c.in-2.is
+returns-in-2 c = rw c.in-2.is (said _)
 
 pub returns-in-3 : goal.returns-in-3
-unfolding kind
-returns-in-3 c = rw c.in-3.is
+returns-in-3 c = rw c.in-3.is (said _)
 
 pub returns-in-4 : goal.returns-in-4
-unfolding kind
-returns-in-4 c = rw c.in-4.is
+returns-in-4 c = rw c.in-4.is (said _)
 
 pub returns-in-5 : goal.returns-in-5
-unfolding kind
-returns-in-5 c = rw c.in-5.is
+returns-in-5 c = rw c.in-5.is (said _)
 
 pub returns-in-6 : goal.returns-in-6
-unfolding kind
-returns-in-6 c = rw c.in-6.is
+returns-in-6 c = rw c.in-6.is (said _)
 
 pub returns-in-7 : goal.returns-in-7
-unfolding kind
-returns-in-7 c = rw c.in-7.is
+returns-in-7 c = rw c.in-7.is (said _)
 
 pub returns-in-8 : goal.returns-in-8
-unfolding kind
-returns-in-8 c = rw c.in-8.is
+returns-in-8 c = rw c.in-8.is (said _)
 
 pub returns-in-9 : goal.returns-in-9
-unfolding kind
-returns-in-9 c = rw c.in-9.is
+returns-in-9 c = rw c.in-9.is (said _)
 
 pub returns-in-10 : goal.returns-in-10
-unfolding kind
-returns-in-10 c = rw c.in-10.is
+returns-in-10 c = rw c.in-10.is (said _)
 
 pub returns-in-11 : goal.returns-in-11
-unfolding kind
-returns-in-11 c = rw c.in-11.is
+returns-in-11 c = rw c.in-11.is (said _)
 
 pub returns-in-12 : goal.returns-in-12
-unfolding kind
-returns-in-12 c = rw c.in-12.is
+returns-in-12 c = rw c.in-12.is (said _)
 
 pub returns-in-13 : goal.returns-in-13
-unfolding kind
-returns-in-13 c = rw c.in-13.is
+returns-in-13 c = rw c.in-13.is (said _)
 
 pub returns-in-14 : goal.returns-in-14
-unfolding kind
-returns-in-14 c = rw c.in-14.is
+returns-in-14 c = rw c.in-14.is (said _)
 
 pub returns-in-15 : goal.returns-in-15
-unfolding kind
-returns-in-15 c = rw c.in-15.is
+returns-in-15 c = rw c.in-15.is (said _)
 
 pub returns-in-16 : goal.returns-in-16
-unfolding kind
-returns-in-16 c = rw c.in-16.is
+returns-in-16 c = rw c.in-16.is (said _)
 
 pub returns-in-17 : goal.returns-in-17
-unfolding kind
-returns-in-17 c = rw c.in-17.is
+returns-in-17 c = rw c.in-17.is (said _)
 
 pub returns-in-18 : goal.returns-in-18
-unfolding kind
-returns-in-18 c = rw c.in-18.is
+returns-in-18 c = rw c.in-18.is (said _)
 
 pub returns-in-19 : goal.returns-in-19
-unfolding kind
-returns-in-19 c = rw c.in-19.is
+returns-in-19 c = rw c.in-19.is (said _)
 
 pub returns-in_default : goal.returns-in_default
-unfolding kind
-returns-in_default c = rw (get_or-eq_default kinds "no kind" (past c.args.k 20 c.in_default.in_default-own.rest))
+returns-in_default c = rw (get_or-eq_default kinds "no kind" {n = c.args.k} (omega arith)) (said _)

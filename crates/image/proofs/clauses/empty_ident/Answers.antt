@@ -1,9 +1,0 @@
--- `image::clauses::empty_ident` meets its contract. Assumes nothing.
-use borrow.Author.Tests.{eq-eqb, ne_eqb}
-use Rattle.image.proofs.clauses.empty_ident.Goals as goal
-
-pub returns-then-kind-eq4 : goal.returns-then-kind-eq4
-returns-then-kind-eq4 c = rw (eq-eqb _ _ c.if-kind-eq4.true)
-
-pub returns : goal.returns
-returns c = rw (ne_eqb _ _ c.if-kind-eq4.false)

@@ -1,9 +1,0 @@
--- `tables_run::decimal` is safe and ends. Assumes nothing.
-use Rattle.std.proofs.Common.{◌≤◌, length}
-use Rattle.tables_run.proofs.decimal.Given as goal
-
-abbrev pub invariant-loop-i : goal.invariant-loop-i
-invariant-loop-i l = l.i ≤ length l.out
-
-abbrev pub decreases-loop-i : goal.decreases-loop-i
-decreases-loop-i l = l.i
