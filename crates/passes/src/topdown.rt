@@ -90,25 +90,28 @@ fn note<F: Fn(usize) -> Option<u64>>(
     }
 }
 
-// A node, then what is below it, left first: what `find` reports of each is placed. The count with it.
+// A node, then what is below it, left first: what `find` reports of each is placed. The count with it. It calls itself on the left of two parts
+// alone, and goes on to the last part, so that a chain of parts takes no stack.
 fn walk<F: Fn(usize) -> Option<u64>>(
     image: Image,
     find: &F,
-    n: usize,
+    mut n: usize,
     table: &mut [u8],
-    count: usize,
+    mut count: usize,
 ) -> Result<usize, Refusal>
     requires at { IsNode image.bytes.now n }
     requires callable { (m : ℕ) → IsNode image.bytes.now m → F.pre find.now m }
     ensures { (due : ℕ → List ℕ) → Finds (F.post find.now) (length (grammar image.entry.bytes.now).nodes) due → Leaves result table.new (place_all (held table.old count) (flat due (top_down (grammar image.entry.bytes.now) n))) }
 {
-    let here = note(find, n, table, count)?;
-    match parts_down(image, n) {
-        Parts::Leaf => Ok(here),
-        Parts::One(part) => walk(image, find, part, table, here),
-        Parts::Two(left, right) => {
-            let there = walk(image, find, left, table, here)?;
-            walk(image, find, right, table, there)
+    loop {
+        count = note(find, n, table, count)?;
+        match parts_down(image, n) {
+            Parts::Leaf => return Ok(count),
+            Parts::One(part) => n = part,
+            Parts::Two(left, right) => {
+                count = walk(image, find, left, table, count)?;
+                n = right;
+            }
         }
     }
 }
