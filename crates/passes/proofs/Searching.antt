@@ -2,25 +2,26 @@
 use Rattle.std.specs.Prelude.{Option, Some, None, Result, Ok, Err, reverse}
 use Rattle.std.specs.List.{list_any}
 use Rattle.std.specs.Option.{MatchOption, IsSomeAnd}
-use Rattle.std.proofs.lemmas.List.{reverse-append}
+use Rattle.std.proofs.lemmas.List.{reverse-append, reverse-reverse, length-reverse}
 use Rattle.std.proofs.lemmas.Cmp.{nat_eq_equiv}
 use Rattle.std.proofs.lemmas.List.Sorted.{IsPermutation-reverse, list_any-IsPermutation}
 use mathlib.Core.Path.{◌≡◌, refl, sym, ap, subst, ◌∙◌}
 use mathlib.Core.Logic.{◌⊎◌, inl, inr}
-use mathlib.Core.List.{List, [], ◌∷◌, ◌++◌}
+use mathlib.Core.List.{List, [], ◌∷◌, ◌++◌, reverse-cons}
 use mathlib.Core.Bool.{Bool, true, false}
 use Prim.Native.Nat.{ℕ, zero, suc, ◌+◌, ◌-◌, ◌/◌, ◌%◌, ◌<◌, ◌≤◌}
 use native.Mathlib.Numerals.{add-one}
 use native.Mathlib.Omega.{arith}
 use lib.Dec.{ltb, eqb}
-use lib.ListN.{length, length-append, length-set, get_or, drop, take, drop_of_length-le}
-use lib.Seq.{drop-cons, take_at}
+use lib.ListN.{length, length-append, length-set, get_or, set, replicate, drop, take, drop_of_length-le}
+use lib.Seq.{drop-cons, take_at, append_snoc}
 use borrow.Author.Tests.{lt-ltb, le-ltb, eq-eqb, ne_eqb, ltb-true, ltb-false}
 use Rattle.image.specs.declared.expr.Expr.{Expr}
 use Rattle.image.specs.declared.expr.Expr.TheVariants.{Str, Insens, Range, Ident, PeekSlice, PosPred, NegPred, Seq, Choice, Opt, Rep, RepOnce, RepExact, RepMin, RepMax, RepMinMax, Push, PushLiteral, NodeTag}
 use Rattle.image.specs.declared.refusal.Refusal.{Refusal}
 use Rattle.image.specs.declared.refusal.Refusal.TheVariants.{TooDeep, LongSearch}
-use Rattle.image.specs.RefusalNumber.{refusal_number}
+use Rattle.image.specs.RefusalNumber.{refusal_number, number_of}
+use Rattle.image.proofs.RefusalLaws.{refusal_number-positive}
 use Rattle.image.specs.Grammar.{Grammar, Rule, no_rule, expr_at, bits_at, root_at, find_rule, text_of, Says}
 use Rattle.image.proofs.FindLaws.{says}
 use Rattle.tables.specs.Places.{places}
@@ -29,8 +30,8 @@ use Rattle.tables.specs.Words.{Holds}
 use Rattle.tables.proofs.Words.{words-length}
 use Rattle.passes.specs.Report.{Result as Found, place_if}
 use Rattle.passes.specs.LeftRecursion.{Sought, stopped, Seeker, is_on, or_else, check_on, check_name, check_expr, enter, search_from, found_in, rule_from, left_recursion}
-use Rattle.passes.specs.Promise.{Held, held, found_number, RulesNamed, sought, Answers, Ran, ran, placed, Leaves, Filled, rule_into, next_into, left_into, LeftPass}
-use Rattle.passes.specs.Steps.{rule_at, find_with, with_trail, Seeks}
+use Rattle.passes.specs.Promise.{Held, held, found_number, RulesNamed, trail_rules, trail_of, route_of, sought, Sound, Answers, Ran, ran, placed, Leaves, Filled, rule_into, next_into, left_into, counted, LeftPass}
+use Rattle.passes.specs.Steps.{rule_at, find_with, with_trail, told, Fair, Seeks}
 use Rattle.passes.specs.declared.left.Find.{Find}
 use Rattle.passes.specs.declared.left.Search.{Search}
 use Rattle.passes.proofs.Places.{Keeps, EndsAs, with_one, holds-keeps, keeps-more, placed-there, placed-full, filled_of, leaves-early}
@@ -202,18 +203,59 @@ from-is :
 unfolding search_from
 from-is g i root a trail p q e = e ∙ rw (p, q)
 
+-- a trail as an array: its rules, then zeros
+put-behind : (xs ys : List ℕ) (y x : ℕ) → set (xs ++ (y ∷ ys)) (length xs) x ≡ xs ++ (x ∷ ys)
+put-behind [] ys y x = refl
+put-behind (z ∷ xs) ys y x = ap (λ (l : List ℕ). z ∷ l) (put-behind xs ys y x)
+
+rules-are : (route : List ℕ) → length route ≤ 257 → trail_rules route ≡ reverse route ++ replicate (257 - length route) 0
+unfolding trail_rules
+rules-are [] l = refl
+rules-are (r ∷ route) l =
+    let n : 257 - length route ≡ suc (257 - suc (length route)) = omega (arith, l) in
+    rw (rules-are route (omega (arith, l)), n)
+    (ap (λ (m : ℕ). set (reverse route ++ (0 ∷ replicate (257 - suc (length route)) 0)) m r) (sym (length-reverse route))
+    ∙ put-behind (reverse route) (replicate (257 - suc (length route)) 0) 0 r
+    ∙ sym (append_snoc (reverse route) r (replicate (257 - suc (length route)) 0))
+    ∙ ap (λ (l : List ℕ). l ++ replicate (257 - suc (length route)) 0) (sym (reverse-cons r route)))
+
+pub trail-kept :
+    (items rules : List ℕ) → length items ≤ 257 → rules ≡ items ++ replicate (257 - length items) 0 → record { rules = rules; len = length items } ≡ trail_of (reverse items)
+trail-kept items rules l e =
+    let n : length (reverse items) ≡ length items = length-reverse items in
+    let q : rules ≡ trail_rules (reverse items) =
+    e ∙ sym (rules-are (reverse items) (omega (arith, n, l)) ∙ rw (reverse-reverse items, n) refl) in
+    λ i. record { rules = q i; len = sym n i }
+
+-- and read again
+route-again : (items : List ℕ) → length items ≤ 257 → route_of (trail_of (reverse items)) ≡ reverse items
+route-again items l =
+    let n : length (reverse items) ≡ length items = length-reverse items in
+    rw (rules-are (reverse items) (omega (arith, n, l)), reverse-reverse items)
+    (ap reverse (take_at items (replicate (257 - length (reverse items)) 0) (length (reverse items)) (sym n)))
+
+-- what an end tells with its trail
+abbrev pub Tells : List ℕ → Result (Option ℕ) Refusal → ℕ → Type 0
+Tells trail found d = (sought (with_trail trail found) d ≡ told trail found d) × Sound (with_trail trail found)
+
+pub told-again : (trail : List ℕ) (found : Option ℕ) (d : ℕ) → length trail ≤ 257 → Fair (Ok found) → Tells trail (Ok found) d
+told-again trail (Some i) d l s =
+    let r : route_of (trail_of (reverse trail)) ≡ reverse trail = route-again trail l in
+    (ap (λ (t : List ℕ). record { end = 1; ident = i; entered = d; trail = t }) r, (s, ap trail_of (sym r)))
+told-again trail None d l s = (refl, tt)
+
 -- a find made of an Ident
 pub option-mapped :
     (trail : List ℕ) (o : Option ℕ) (f : Option Find) (post : ℕ → Find → Type 0) → MatchOption o (f ≡ None) (λ i. IsSomeAnd f (post i)) →
-    ((i : ℕ) (x : Find) → post i x → x ≡ record { ident = i; trail = record { items = trail } }) → f ≡ find_with trail o
+    ((i : ℕ) (x : Find) → post i x → x ≡ record { ident = i; trail = trail_of (reverse trail) }) → f ≡ find_with trail o
 option-mapped trail (Some i) (Some x) post h m = ap Some (m i x h)
 option-mapped trail (Some i) None post h m = absurd h
 option-mapped trail None f post h m = h
 
 pub from_answers :
     (g : Grammar) (i root d : ℕ) (trail after : List ℕ) (found : Result (Option ℕ) Refusal) (end : Result (Option Find) Refusal) → trail ≡ i ∷ [] → root ≡ root_at g i → end ≡ with_trail after found →
-    Seeks (enter g i 256 (reverse trail) 0 root) trail found d after → Answers (search_from g i) (record { end = end; entered = d })
-from_answers g i root d trail after found end p q e s = rw e (record { is = from-is g i root (sought (with_trail after found) d) trail p q s.is; sound = s.sound })
+    Tells after found d → Seeks (enter g i 256 (reverse trail) 0 root) trail found d after → Answers (search_from g i) (record { end = end; entered = d })
+from_answers g i root d trail after found end p q e w s = rw e (record { is = w.0 ∙ from-is g i root (told after found d) trail p q s.is; sound = w.1 })
 
 -- what it leaves of the table, where it is refused
 pub into-refused :
@@ -242,6 +284,39 @@ module _ (g : Grammar) (i : ℕ) (h : Held) (l : i < length g.rules) where
       (a : Result ℕ Refusal) (k : Refusal) (a' : Result ℕ Refusal) (t : List ℕ) → a ≡ Err k → ((y : Refusal) × (a' ≡ Err y) × (y ≡ k)) →
       Leaves a t (rule_into h (search_from g i) (search_from g i).end) → Leaves a' t (left_from g i h)
   left-early a k a' t p q w = rw left-step (leaves-early a k a' t (rule_into h (search_from g i) (search_from g i).end) (left_from g (i + 1)) p q w)
+
+-- a refusal leaves the table and its count as they were
+into-kept : (h : Held) (a : Sought) (e : ℕ) (k : Refusal) → refusal_number k ≡ (rule_into h a e).refusal → rule_into h a e ≡ ran (refusal_number k) h
+into-kept h a zero k q = absurd (omega (arith, q, refusal_number-positive k))
+into-kept h a (suc zero) k q = go (ltb h.count (length h.table)) refl
+  where
+    x : ℕ
+    x = report a.ident 0 5
+
+    go : (b : Bool) → ltb h.count (length h.table) ≡ b → placed h x ≡ ran (refusal_number k) h
+    go true e = absurd (let z : (placed h x).refusal ≡ 0 = ap (λ (r : Ran). r.refusal) (placed-there h x (ltb-true h.count (length h.table) e)) in omega (arith, q, z, refusal_number-positive k))
+    go false e =
+        let p : placed h x ≡ ran 10 h = placed-full h x (ltb-false h.count (length h.table) e) in
+        p ∙ ap (λ (n : ℕ). ran n h) (sym (q ∙ ap (λ (r : Ran). r.refusal) p))
+into-kept h a (suc (suc m)) k q = ap (λ (n : ℕ). ran n h) (sym q)
+
+stays : (a : Ran) (k : Refusal) (h : Held) (rest : Held → Ran) → a ≡ ran (refusal_number k) h → ran (refusal_number k) h ≡ next_into rest a
+stays a k h rest e = rw e (rw (ne_eqb (refusal_number k) 0 (λ z. omega (arith, z, refusal_number-positive k))) refl)
+
+pub left-stopped :
+    (g : Grammar) (i : ℕ) (t : List ℕ) (c : ℕ) → i < length g.rules → (a : Result ℕ Refusal) (k : Refusal) (r : Result (Unit {0}) Refusal) (t' : List ℕ) →
+    a ≡ Err k → ((y : Refusal) × (r ≡ Err y) × (y ≡ k)) → Leaves a t' (rule_into (held t c) (search_from g i) (search_from g i).end) → ran (number_of r) (held t' c) ≡ left_from g i (held t c)
+unfolding held
+left-stopped g i t c l a k r t' p y w =
+    let h : Held = held t c in
+    let one : Ran = rule_into h (search_from g i) (search_from g i).end in
+    let v : Leaves (Err k) t' one = subst (λ (b : Result ℕ Refusal). Leaves b t' one) p w in
+    let e : one ≡ ran (refusal_number k) h = into-kept h (search_from g i) (search_from g i).end k v.0 in
+    let s : t' ≡ t = v.1 ∙ ap (λ (b : Ran). b.held.bytes) e in
+    ap (λ (b : Result (Unit {0}) Refusal). ran (number_of b) (held t' c)) (y.1 ∙ ap Err y.2)
+    ∙ ap (λ (u : List ℕ). ran (refusal_number k) (held u c)) s
+    ∙ stays one k h (left_from g (i + 1)) e
+    ∙ sym (left-step g i h l)
 
 pub left_end : (g : Grammar) (i : ℕ) (h : Held) → length g.rules ≤ i → ran 0 h ≡ left_from g i h
 unfolding left_from left_into
@@ -278,12 +353,18 @@ left-ends g (r ∷ rules) places i h xs k p =
     one-ends places (λ more. left_recursion g places (suc i) rules more) (λ h1. left_into g (suc i) rules h1) h xs k p
     (λ h1 ys k1 p1. left-ends g rules places (suc i) h1 ys k1 p1) (search_from g i) (search_from g i).end
 
--- every promise of the pass, from its one equation
-pub left_is : (g : Grammar) (t : List ℕ) (c : ℕ) (t' : List ℕ) (r : Result ℕ Refusal) → Leaves r t' (left_into g 0 g.rules (held t c)) → LeftPass g t c t' r
+-- what it leaves with the count apart, and with the count in the answer
+leaves-counted : (r : Result (Unit {0}) Refusal) (t : List ℕ) (c : ℕ) (a : Ran) → ran (number_of r) (held t c) ≡ a → Leaves (counted r c) t a
 unfolding held
-left_is g t c t' r l = record { is = l; tells = tells }
+leaves-counted (Ok u) t c a e = e
+leaves-counted (Err k) t c a e = (ap (λ (b : Ran). b.refusal) e, ap (λ (b : Ran). b.held.bytes) e)
+
+-- every promise of the pass, from its one equation
+pub left_is : (g : Grammar) (t : List ℕ) (c : ℕ) (t' : List ℕ) (c' : ℕ) (r : Result (Unit {0}) Refusal) → ran (number_of r) (held t' c') ≡ left_into g 0 g.rules (held t c) → LeftPass g t c t' c' r
+unfolding held
+left_is g t c t' c' r l = record { is = l; tells = tells }
   where
-    tells : (xs : List ℕ) → Holds t xs → c ≡ length xs → Filled (left_recursion g (places 8 t) 0 g.rules xs) r t'
+    tells : (xs : List ℕ) → Holds t xs → c ≡ length xs → Filled (left_recursion g (places 8 t) 0 g.rules xs) (counted r c') t'
     tells xs p q =
-        filled_of (left_recursion g (places 8 t) 0 g.rules xs) r t' (left_into g 0 g.rules (held t c)) l
+        filled_of (left_recursion g (places 8 t) 0 g.rules xs) (counted r c') t' (left_into g 0 g.rules (held t c)) (leaves-counted r t' c' _ l)
         (left-ends g g.rules (places 8 t) 0 (held t c) xs (holds-keeps t xs c p q) (words-length t))

@@ -1,10 +1,9 @@
 -- Each public function's promise settles its result and every lent byte: two results, and two lots of exit bytes, that fit it are equal. `Post` is the
 -- promise as the check reads it off the function's contract. Assumes nothing.
-use Rattle.std.specs.Prelude.{Option, Some, None, Result, Ok, Err, reverse}
-use Rattle.std.proofs.lemmas.List.{reverse-reverse}
+use Rattle.std.specs.Prelude.{Option, Some, None, Result, Ok, Err}
 use Prim.Native.Nat.{ℕ, ◌<◌}
 use native.Mathlib.Omega.{arith}
-use mathlib.Core.Path.{◌≡◌, sym, ap, ◌∙◌}
+use mathlib.Core.Path.{◌≡◌, refl, sym, ap, ◌∙◌}
 use mathlib.Core.Logic.{◌⊎◌, inl, inr}
 use mathlib.Core.List.{List}
 use contract.Lifetimes.{Lfts}
@@ -12,10 +11,10 @@ use denote.Triple.Clauses.{AtExit}
 use borrow.Fn.Kinds.{Dens, res_t, ended_of}
 use Rattle.image.specs.declared.refusal.Refusal.{Refusal}
 use Rattle.image.specs.declared.refusal.Refusal.TheVariants.{TooDeep, LongSearch}
-use Rattle.image.specs.RefusalNumber.{refusal_number}
+use Rattle.image.specs.RefusalNumber.{refusal_number, number_of}
 use Rattle.image.proofs.RefusalLaws.{refusal_number-positive, refusal_number-injective}
 use Rattle.passes.specs.LeftRecursion.{Sought}
-use Rattle.passes.specs.Promise.{Held, held, Ran, Leaves, sought, Sound}
+use Rattle.passes.specs.Promise.{Held, held, trail_of, Ran, ran, Leaves, sought, Sound}
 use Rattle.passes.specs.declared.left.Find.{Find}
 use Rattle.passes.specs.declared.left.Search.{Search}
 use Rattle.passes.proofs.placing.report_of.Kinds as report-of
@@ -59,9 +58,9 @@ made end entered = record { end = end; entered = entered }
 search-one : (e e' : Result (Option Find) Refusal) (d d' : ℕ) → Sound e → Sound e' → sought e d ≡ sought e' d' → made e d ≡ made e' d'
 search-one (Ok (Some f)) (Ok (Some f')) d d' s s' q =
     let i : f.ident ≡ f'.ident = ap (λ (a : Sought). a.ident) q in
-    let t : f.trail.items ≡ f'.trail.items = sym (reverse-reverse f.trail.items) ∙ ap reverse (ap (λ (a : Sought). a.trail) q) ∙ reverse-reverse f'.trail.items in
+    let t : f.trail ≡ f'.trail = s.1 ∙ ap trail_of (ap (λ (a : Sought). a.trail) q) ∙ sym s'.1 in
     let n : d ≡ d' = ap (λ (a : Sought). a.entered) q in
-    λ j. record { end = Ok (Some (record { ident = i j; trail = record { items = t j } })); entered = n j }
+    λ j. record { end = Ok (Some (record { ident = i j; trail = t j })); entered = n j }
 search-one (Ok (Some f)) (Ok None) d d' s s' q = absurd (omega (arith, ap end-of q))
 search-one (Ok (Some f)) (Err k) d d' s s' q = absurd (omega (arith, ap end-of q, late k s'))
 search-one (Ok None) (Ok (Some f)) d d' s s' q = absurd (omega (arith, ap end-of q))
@@ -104,7 +103,21 @@ pub search-from-unique :
     search-from-promise.Post κs a x s → search-from-promise.Post κs a y t → x ≡ y
 search-from-unique κs a x y s t p q = search-one x.end y.end x.entered y.entered p.sound q.sound (p.is ∙ sym q.is)
 
+-- an answer without a value is told by its number
+one-answer : (x y : Result (Unit {0}) Refusal) → number_of x ≡ number_of y → x ≡ y
+one-answer (Ok u) (Ok v) e = refl
+one-answer (Ok u) (Err k) e = absurd (omega (arith, e, refusal_number-positive k))
+one-answer (Err k) (Ok v) e = absurd (omega (arith, e, refusal_number-positive k))
+one-answer (Err k) (Err j) e = ap Err (refusal_number-injective k j e)
+
+left-one :
+    (a : Ran) (x y : Result (Unit {0}) Refusal) (t u : List ℕ) (c d : ℕ) → ran (number_of x) (held t c) ≡ a → ran (number_of y) (held u d) ≡ a → (x ≡ y) × (t ≡ u) × (c ≡ d)
+left-one a x y t u c d p q =
+    let e : ran (number_of x) (held t c) ≡ ran (number_of y) (held u d) = p ∙ sym q in
+    let h = held_one t u c d (ap (λ (b : Ran). b.held) e) in
+    (one-answer x y (ap (λ (b : Ran). b.refusal) e), h.1, h.0)
+
 pub left-run-unique :
-    (κs : Lfts 3) (a : Dens κs left-run.ps) (x y : (res_t left-run.r κs).Denot) (s t : AtExit (ended_of 3 left-run.ps left-run.r) κs) →
-    left-run-promise.Post κs a x s → left-run-promise.Post κs a y t → (x ≡ y) × (s.1.1.0.now ≡ t.1.1.0.now)
-left-run-unique κs a x y s t p q = leaves-one _ x y _ _ p.is q.is
+    (κs : Lfts 4) (a : Dens κs left-run.ps) (x y : (res_t left-run.r κs).Denot) (s t : AtExit (ended_of 4 left-run.ps left-run.r) κs) →
+    left-run-promise.Post κs a x s → left-run-promise.Post κs a y t → (x ≡ y) × (s.1.1.0.now ≡ t.1.1.0.now) × (s.1.1.1.0.now ≡ t.1.1.1.0.now)
+left-run-unique κs a x y s t p q = left-one _ x y _ _ _ _ p.is q.is

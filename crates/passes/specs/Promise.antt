@@ -1,5 +1,5 @@
 -- What the passes promise of the report table, and what the search for left recursion asks of the names. Assumes nothing.
-use Rattle.std.specs.Prelude.{cond, List, [], ◌∷◌, ◌++◌, ◌≡◌, ◌⊎◌, ℕ, zero, suc, ◌*◌, ◌<◌, ltb, eqb, length, get_or, set, take, drop, reverse, Option, Some, None, Result, Ok, Err}
+use Rattle.std.specs.Prelude.{cond, List, [], ◌∷◌, ◌++◌, ◌≡◌, ◌⊎◌, ℕ, zero, suc, ◌*◌, ◌<◌, ltb, eqb, length, get_or, set, take, drop, replicate, reverse, Option, Some, None, Result, Ok, Err}
 use Rattle.image.specs.declared.expr.Expr.TheVariants.{Ident}
 use Rattle.image.specs.declared.refusal.Refusal.{Refusal}
 use Rattle.image.specs.declared.refusal.Refusal.TheVariants.{TooDeep, LongSearch}
@@ -12,6 +12,7 @@ use Rattle.tables.specs.Report.{report}
 use Rattle.passes.specs.Report.{Result as Found, refused, done, place}
 use Rattle.passes.specs.Order.{ordered}
 use Rattle.passes.specs.LeftRecursion.{Sought, stopped, search_from, left_recursion}
+use Rattle.passes.specs.declared.left.Trail.{Trail}
 use Rattle.passes.specs.declared.left.Find.{Find}
 use Rattle.passes.specs.declared.left.Search.{Search}
 
@@ -84,15 +85,27 @@ found_number (Some i) = suc i
 abbrev pub RulesNamed : Grammar → List ℕ → Type 0
 RulesNamed g rules = (n at len : ℕ) → expr_at g n ≡ Ident at len → get_or rules n 0 ≡ found_number (find_rule g (text_of g at len))
 
+-- a trail as an array: the first rule first, zeros past the newest
+unfoldable pub trail_rules : List ℕ → List ℕ
+trail_rules [] = replicate 257 0
+trail_rules (r ∷ trail) = set (trail_rules trail) (length trail) r
+
+abbrev pub trail_of : List ℕ → Trail
+trail_of trail = record { rules = trail_rules trail; len = length trail }
+
+-- and the rules of an array, the newest first
+abbrev pub route_of : Trail → List ℕ
+route_of trail = reverse (take trail.len trail.rules)
+
 -- how a search ended: nothing found, the Ident found with the trail, or 12 or 13; the definition has the newest rule first
 abbrev pub sought : Result (Option Find) Refusal → ℕ → Sought
-sought (Ok (Some find)) entered = record { end = 1; ident = find.ident; entered = entered; trail = reverse find.trail.items }
+sought (Ok (Some find)) entered = record { end = 1; ident = find.ident; entered = entered; trail = route_of find.trail }
 sought (Ok None) entered = stopped 0 entered
 sought (Err k) entered = stopped (refusal_number k) entered
 
--- an Ident found is a node, and a refusal is 12 or 13
+-- an Ident found is a node, each place past the trail is zero, and a refusal is 12 or 13
 abbrev pub Sound : Result (Option Find) Refusal → Type 0
-Sound (Ok (Some find)) = find.ident < 65536
+Sound (Ok (Some find)) = (find.ident < 65536) × (find.trail ≡ trail_of (route_of find.trail))
 Sound (Ok None) = Unit {0}
 Sound (Err k) = (k ≡ TooDeep) ⊎ (k ≡ LongSearch)
 
@@ -112,8 +125,13 @@ unfoldable pub left_into : Grammar → ℕ → List Rule → Held → Ran
 left_into g i [] h = ran 0 h
 left_into g i (r ∷ rules) h = next_into (λ h1. left_into g (suc i) rules h1) (rule_into h (search_from g i) (search_from g i).end)
 
--- the pass for reason 5 leaves the table t' and the answer r: every byte is settled, and where the table held the reports xs, it is refused or
--- holds the reports as `left_recursion` says
-pub record LeftPass (g : Grammar) (t : List ℕ) (count : ℕ) (t' : List ℕ) (r : Result ℕ Refusal) : Type 0 where
-  pub is : Leaves r t' (left_into g 0 g.rules (held t count))
-  pub tells : (xs : List ℕ) → Holds t xs → count ≡ length xs → Filled (left_recursion g (places 8 t) 0 g.rules xs) r t'
+-- an answer whose count is lent: that count, or the refusal
+abbrev pub counted : Result (Unit {0}) Refusal → ℕ → Result ℕ Refusal
+counted (Ok u) count = Ok count
+counted (Err k) count = Err k
+
+-- the pass for reason 5 leaves the table t', the count and the answer r: every byte and the count are settled, on a refusal too, and where the table
+-- held the reports xs, it is refused or holds the reports as `left_recursion` says
+pub record LeftPass (g : Grammar) (t : List ℕ) (count : ℕ) (t' : List ℕ) (count' : ℕ) (r : Result (Unit {0}) Refusal) : Type 0 where
+  pub is : ran (number_of r) (held t' count') ≡ left_into g 0 g.rules (held t count)
+  pub tells : (xs : List ℕ) → Holds t xs → count ≡ length xs → Filled (left_recursion g (places 8 t) 0 g.rules xs) (counted r count') t'

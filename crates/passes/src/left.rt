@@ -3,7 +3,7 @@ ghost use Rattle.std.specs.Prelude.{◌≡◌, ◌+◌, reverse, ◌≤◌, ◌<
 ghost use Rattle.image.specs.Grammar.{grammar};
 ghost use Rattle.image.specs.Promise.{IsNode, IsRule};
 ghost use Rattle.passes.specs.LeftRecursion.{or_else, check_name, enter, search_from};
-ghost use Rattle.passes.specs.Promise.{held, RulesNamed, Answers, Leaves, rule_into, LeftPass};
+ghost use Rattle.passes.specs.Promise.{held, RulesNamed, trail_of, Answers, Leaves, rule_into, LeftPass};
 ghost use Rattle.passes.specs.Steps.{Seeks, rule_at};
 
 use crate::placing::{Reason, put, report_of};
@@ -12,15 +12,22 @@ use image::Image;
 use image::expr::Expr;
 use image::refusal::Refusal;
 
-// A find: the Ident, and the rules entered on the way to it, the first one first.
-#[derive(Drop)]
+// The rules entered, the first one first, and zeros past the newest.
+#[derive(Clone, Copy)]
+pub struct Trail {
+    pub rules: [u16; 257],
+    pub len: usize,
+}
+
+// A find: the Ident, and the rules entered on the way to it.
+#[derive(Clone, Copy)]
 pub struct Find {
     pub ident: usize,
-    pub trail: ArrayVec<u16, 257>,
+    pub trail: Trail,
 }
 
 // How a search ended, and how many nodes it entered.
-#[derive(Drop)]
+#[derive(Clone, Copy)]
 pub struct Search {
     pub end: Result<Option<Find>, Refusal>,
     pub entered: usize,
@@ -132,6 +139,17 @@ impl Quest<'_> {
     }
 }
 
+// The trail of a find: a value of its own, where the search has a vector.
+fn kept(rules: &[u16]) -> Trail
+    requires { length rules.now ≤ 257 }
+    ensures { result ≡ trail_of (reverse rules.now) }
+{
+    let len = rules.len();
+    let mut kept = [0; 257];
+    kept[..len].copy_from_slice(rules);
+    Trail { rules: kept, len }
+}
+
 // The search from one rule, which is on the trail from the start.
 #[tactic(auto, using(image::proofs::GrammarLaws::formed))]
 pub fn search_from(image: Image, rules: &[u16; 2048], i: usize) -> Search
@@ -150,7 +168,10 @@ pub fn search_from(image: Image, rules: &[u16; 2048], i: usize) -> Search
     let Route { trail, entered } = route;
     match found {
         Ok(found) => Search {
-            end: Ok(found.map(|ident| Find { ident, trail })),
+            end: Ok(found.map(|ident| Find {
+                ident,
+                trail: kept(&trail),
+            })),
             entered,
         },
         Err(k) => Search {
@@ -177,18 +198,18 @@ fn run_rule(
     }
 }
 
-// Reason 5: all rules in order, to the first refusal. The count with their reports.
+// Reason 5: all rules in order, to the first refusal. The count comes to that with their reports, on a refusal with those placed before it.
 pub fn run(
     image: Image,
     rules: &[u16; 2048],
     table: &mut [u8],
-    mut count: usize,
-) -> Result<usize, Refusal>
+    count: &mut usize,
+) -> Result<(), Refusal>
     requires { RulesNamed (grammar image.bytes.now) rules.now }
-    ensures { LeftPass (grammar image.entry.bytes.now) table.old count table.new result }
+    ensures { LeftPass (grammar image.entry.bytes.now) table.old count.old table.new count.new result }
 {
     for i in 0..image.rule_count() {
-        count = run_rule(image, rules, i, table, count)?;
+        *count = run_rule(image, rules, i, table, *count)?;
     }
-    Ok(count)
+    Ok(())
 }

@@ -198,11 +198,11 @@ module _ (image reports : List ℕ) (count : ℕ) (holds : Holds reports (take c
     fifth : left_recursion (grammar image) (places 8 reports) 0 (grammar image).rules d₄.0 ≡ recursion
     fifth = rw long refl
 
-    pub left-refused : {reports₂ : List ℕ} {k : Refusal} → LeftPass (grammar image) reports₁ c₄ reports₂ (Err k) → LastPasses image reports count (Err k) reports₂
-    left-refused {reports₂} {k} left =
+    pub left-refused : {reports₂ : List ℕ} {c₅ : ℕ} {k : Refusal} → LeftPass (grammar image) reports₁ c₄ reports₂ c₅ (Err k) → LastPasses image reports count (Err k) reports₂
+    left-refused {reports₂} {c₅} {k} left =
         record { leaves = rw (d₄.1, fifth) (refused-leaves k reports₂ reports₂ recursion (λ found₅. done (ordered (grammar image) found₅)) (left.tells d₄.0 d₄.2 d₄.3)) }
 
-    module _ (reports₂ : List ℕ) (c₅ : ℕ) (left : LeftPass (grammar image) reports₁ c₄ reports₂ (Ok c₅)) where
+    module _ (reports₂ : List ℕ) (c₅ : ℕ) (left : LeftPass (grammar image) reports₁ c₄ reports₂ c₅ (Ok tt)) where
       few : Few (length (grammar image).rules + length d₄.0) recursion
       few = few-recursions (grammar image) (places 8 reports₁) 0 (length d₄.0) (grammar image).rules d₄.0 (omega arith)
 

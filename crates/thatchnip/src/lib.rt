@@ -63,8 +63,8 @@ fn last_passes(
     requires { RulesNamed (grammar image.bytes.now) rules.now × Holds reports.old (take count (words reports.old)) × (count ≤ places 8 reports.old) }
     ensures { LastPasses image.entry.bytes.now reports.old count result reports.new }
 {
-    let count = validate_choices(image, reports, count)?;
-    let count = left::run(image, rules, reports, count)?;
+    let mut count = validate_choices(image, reports, count)?;
+    left::run(image, rules, reports, &mut count)?;
     order::sort(image, reports, count);
     Ok(count)
 }

@@ -8,15 +8,15 @@ returns-in_err-count c =
     let p = err_from_is_err_and c.from_residual.result c.from_residual.ensures.1 in
     rw (p.1, p.2) (choices-refused c.args.image.bytes.now _ _ c.requires.1 c.requires.2 c.in_err-count.ensures)
 
-pub returns-in_err-count-2 : goal.returns-in_err-count-2
-returns-in_err-count-2 c =
-    let p = err_from_is_err_and c.from_residual-in_err-count-2.result c.from_residual-in_err-count-2.ensures.1 in
-    rw (p.1, p.2) (left-refused c.args.image.bytes.now _ _ c.requires.1 c.requires.2 _ _ c.validate_choices.auto.table c.in_ok-count.ensures c.in_err-count-2.ensures)
+pub returns-in_err-run : goal.returns-in_err-run
+returns-in_err-run c =
+    let p = err_from_is_err_and c.from_residual-in_err-run.result c.from_residual-in_err-run.ensures.1 in
+    rw (p.1, p.2) (left-refused c.args.image.bytes.now _ _ c.requires.1 c.requires.2 _ _ c.validate_choices.auto.table c.in_ok-count.ensures c.in_err-run.ensures)
 
 pub sort-requires : goal.sort-requires
 sort-requires c =
-    last-room c.args.image.bytes.now _ _ c.requires.1 c.requires.2 _ _ c.validate_choices.auto.table c.in_ok-count.ensures _ _ c.in_ok-count-2.ensures
+    last-room c.args.image.bytes.now _ _ c.requires.1 c.requires.2 _ _ c.validate_choices.auto.table c.in_ok-count.ensures _ _ c.in_ok-run.ensures
 
 pub returns : goal.returns
 returns c =
-    last-answers c.args.image.bytes.now _ _ c.requires.1 c.requires.2 _ _ c.validate_choices.auto.table c.in_ok-count.ensures _ _ c.in_ok-count-2.ensures c.sort.ensures
+    last-answers c.args.image.bytes.now _ _ c.requires.1 c.requires.2 _ _ c.validate_choices.auto.table c.in_ok-count.ensures _ _ c.in_ok-run.ensures c.sort.ensures
