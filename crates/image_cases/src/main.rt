@@ -2,7 +2,8 @@
 // The stored input and the numbers expected are written by oracle/image_cases.py, which knows document 01 and nothing of this code.
 #![tactic(auto)]
 
-ghost use Rattle.std.specs.Prelude.{◌<◌, IfSome};
+ghost use Rattle.std.specs.Prelude.{◌<◌, length, IfSome};
+ghost use Rattle.std.specs.Counts.{IsPrefixLen};
 
 use std::io;
 use std::io::Read;
@@ -24,7 +25,9 @@ fn digit(b: u8) -> Option<u8>
 }
 
 // Puts the bytes of hex at the start of out, and answers them. None where it is not pairs of digits, or more than fit.
-fn decode<'a>(hex: &[u8], out: &'a mut [u8]) -> Option<&'a [u8]> {
+fn decode<'a>(hex: &[u8], out: &'a mut [u8]) -> Option<&'a [u8]>
+    ensures { IfSome result (λ image. IsPrefixLen (length image.now) out.old) }
+{
     let (pairs, rest) = hex.as_chunks::<2>();
     let bytes = out.get_mut(..pairs.len())?;
     if !rest.is_empty() {

@@ -99,6 +99,9 @@ module _ (s : AbsStack) where
 pub joined-unique : (a b : Option AbsStack) → OneMaybe (M.joined (maybe_of a) (maybe_of b))
 joined-unique a b = is-maybe-unique
 
+pub is-some-unique : (m : Option AbsStack) (r q : Bool) → r ≡ M.is_some (maybe_of m) → q ≡ M.is_some (maybe_of m) → r ≡ q
+is-some-unique m r q = eq-unique
+
 module _ (o : Outcome) where
   pub of-push-unique : OneOutcome (M.of_push max_len (outcome_of o))
   of-push-unique = is-outcome-unique

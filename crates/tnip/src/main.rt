@@ -4,6 +4,8 @@
 // has the number of its argument as its name, in the folder that THATCHNIP_LINKS names.
 #![tactic(auto)]
 
+ghost use Rattle.std.specs.Prelude.{◌≤◌};
+
 mod file;
 mod lend;
 mod tell;
@@ -100,7 +102,9 @@ fn check_arguments(to: &Teller<HostRuntime>, lent: &mut Lent) -> io::Result<Stat
 }
 
 // The number that an argument has.
-fn number_at(rt: &impl Env, i: usize) -> u64 {
+fn number_at(rt: &impl Env, i: usize) -> u64
+    ensures { result ≤ 4294967296 }
+{
     let mut text = [0u8; 16];
     match rt.arg(i, &mut text) {
         Ok(n) => number(&text[..n]).map_or(NO_NUMBER, u64::from),
