@@ -12,7 +12,7 @@ fn error_words(text: &str) -> &str {
 }
 
 // Says on standard error why a file is not checked, and what to do.
-pub fn unread(rt: &HostRuntime, path: &[u8], error: &io::Error) -> io::Result<()> {
+pub(crate) fn unread(rt: &HostRuntime, path: &[u8], error: &io::Error) -> io::Result<()> {
     let text = format!(in rt.alloc(); "{error}")?;
     let to = rt.stderr();
     to.write_all(path)?;
@@ -53,7 +53,7 @@ fn open_argument(rt: &HostRuntime, i: usize, path: &[u8]) -> io::Result<File> {
 }
 
 // Opens the file that argument i names, reads it, and answers how many bytes it has.
-pub fn load(rt: &HostRuntime, i: usize, path: &[u8], image: &mut [u8]) -> io::Result<usize>
+pub(crate) fn load(rt: &HostRuntime, i: usize, path: &[u8], image: &mut [u8]) -> io::Result<usize>
     ensures { IfOk result (λ n. n ≤ length image.old) }
 {
     let mut file = open_argument(rt, i, path)?;

@@ -43,7 +43,7 @@ fn more(places: u64, usual: u64, most: u64) -> u64 {
 
 impl Places {
     // What to try after a refusal because the outcome, walked or report table has no free place.
-    pub fn after(self, refusal: Refusal) -> Option<Places> {
+    pub(crate) fn after(self, refusal: Refusal) -> Option<Places> {
         match refusal {
             Refusal::OutcomesFull => Some(Places {
                 outcomes: more(self.outcomes, USUAL.outcomes, MOST.outcomes),
@@ -73,7 +73,7 @@ pub struct Lent<'a> {
 
 impl<'a> Lent<'a> {
     // Tables of exactly so many places, as far as these have them.
-    pub fn new(
+    pub(crate) fn new(
         places: Places,
         outcomes: &'a mut [u8],
         walked: &'a mut [u8],
@@ -91,7 +91,7 @@ impl<'a> Lent<'a> {
     }
 
     // Asks the check about the bytes of an image, whose reports then stand in the report table.
-    pub fn check<'i>(&mut self, bytes: &'i [u8]) -> Verdict<'i> {
+    pub(crate) fn check<'i>(&mut self, bytes: &'i [u8]) -> Verdict<'i> {
         let number = thatchnip_check(bytes, self.outcomes, self.walked, self.reports);
         if let Some(refusal) = Refusal::of_number(number / 4294967296) {
             return Err(refusal);

@@ -71,7 +71,7 @@ pub struct Teller<'a, P> {
 
 impl<P: Print> Teller<'_, P> {
     // Tells what the check says of the image of a file.
-    pub fn tell(&self, path: &[u8], verdict: Verdict, lent: &Lent) -> io::Result<()> {
+    pub(crate) fn tell(&self, path: &[u8], verdict: Verdict, lent: &Lent) -> io::Result<()> {
         if self.way == Way::Raw {
             return self.tell_raw(verdict, lent.reports);
         }
