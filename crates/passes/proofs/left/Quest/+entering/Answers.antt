@@ -31,12 +31,12 @@ enter-returns-in-Choice t c =
 
 pub enter-returns-then-bits_at-eq1 : goal.enter-returns-then-bits_at-eq1
 enter-returns-then-bits_at-eq1 t c =
-    enter-pair _ _ _ _ _ _ _ c.if-left-eq0.false (omega (arith, c.if-route-ge65536.false)) _ _ _ c.in-Seq.l c.in-Seq.r c.bits_at.result c.in-Seq.ensures.is c.bits_at.ensures.is c.if-bits_at-eq1.true
+    enter-pair _ _ _ _ _ _ _ c.if-left-eq0.false (omega (arith, c.if-route-ge65536.false)) _ _ _ c.in-Seq.l c.in-Seq.r c.bits_at.result c.in-Seq.ensures.is c.bits_at.ensures.is (omega (arith, c.if-bits_at-eq1.true))
     c.check_both-then-bits_at-eq1.ensures
 
 pub enter-returns-else-bits_at-eq1 : goal.enter-returns-else-bits_at-eq1
 enter-returns-else-bits_at-eq1 t c =
-    enter-left _ _ _ _ _ _ _ c.if-left-eq0.false (omega (arith, c.if-route-ge65536.false)) _ _ _ c.in-Seq.l c.in-Seq.r c.bits_at.result c.in-Seq.ensures.is c.bits_at.ensures.is c.if-bits_at-eq1.false
+    enter-left _ _ _ _ _ _ _ c.if-left-eq0.false (omega (arith, c.if-route-ge65536.false)) _ _ _ c.in-Seq.l c.in-Seq.r c.bits_at.result c.in-Seq.ensures.is c.bits_at.ensures.is (λ set. omega (arith, c.if-bits_at-eq1.false, set))
     c.enter.ensures
 
 pub enter-returns-in-PosPred : goal.enter-returns-in-PosPred
