@@ -198,7 +198,7 @@ module _ (g : Grammar) (first : ℕ) (seek : Seeker) (trail : List ℕ) (c n x :
           }
 
 -- the search from a rule
-from-is :
+pub from-is :
     (g : Grammar) (i root : ℕ) (a : Sought) (trail : List ℕ) → trail ≡ i ∷ [] → root ≡ root_at g i → a ≡ enter g i 256 (reverse trail) 0 root → a ≡ search_from g i
 unfolding search_from
 from-is g i root a trail p q e = e ∙ rw (p, q)
@@ -354,17 +354,20 @@ left-ends g (r ∷ rules) places i h xs k p =
     (λ h1 ys k1 p1. left-ends g rules places (suc i) h1 ys k1 p1) (search_from g i) (search_from g i).end
 
 -- what it leaves with the count apart, and with the count in the answer
-leaves-counted : (r : Result (Unit {0}) Refusal) (t : List ℕ) (c : ℕ) (a : Ran) → ran (number_of r) (held t c) ≡ a → Leaves (counted r c) t a
+pub leaves-counted : (r : Result (Unit {0}) Refusal) (t : List ℕ) (c : ℕ) (a : Ran) → ran (number_of r) (held t c) ≡ a → Leaves (counted r c) t a
 unfolding held
 leaves-counted (Ok u) t c a e = e
 leaves-counted (Err k) t c a e = (ap (λ (b : Ran). b.refusal) e, ap (λ (b : Ran). b.held.bytes) e)
 
+-- the reports that the pass leaves, from what it leaves of the table
+pub left-tells :
+    (g : Grammar) (t : List ℕ) (c : ℕ) (t' : List ℕ) (r : Result ℕ Refusal) → Leaves r t' (left_into g 0 g.rules (held t c)) →
+    (xs : List ℕ) → Holds t xs → c ≡ length xs → Filled (left_recursion g (places 8 t) 0 g.rules xs) r t'
+unfolding held
+left-tells g t c t' r l xs p q =
+    filled_of (left_recursion g (places 8 t) 0 g.rules xs) r t' (left_into g 0 g.rules (held t c)) l
+    (left-ends g g.rules (places 8 t) 0 (held t c) xs (holds-keeps t xs c p q) (words-length t))
+
 -- every promise of the pass, from its one equation
 pub left_is : (g : Grammar) (t : List ℕ) (c : ℕ) (t' : List ℕ) (c' : ℕ) (r : Result (Unit {0}) Refusal) → ran (number_of r) (held t' c') ≡ left_into g 0 g.rules (held t c) → LeftPass g t c t' c' r
-unfolding held
-left_is g t c t' c' r l = record { is = l; tells = tells }
-  where
-    tells : (xs : List ℕ) → Holds t xs → c ≡ length xs → Filled (left_recursion g (places 8 t) 0 g.rules xs) (counted r c') t'
-    tells xs p q =
-        filled_of (left_recursion g (places 8 t) 0 g.rules xs) (counted r c') t' (left_into g 0 g.rules (held t c)) (leaves-counted r t' c' _ l)
-        (left-ends g g.rules (places 8 t) 0 (held t c) xs (holds-keeps t xs c p q) (words-length t))
+left_is g t c t' c' r l = record { is = l; tells = left-tells g t c t' (counted r c') (leaves-counted r t' c' (left_into g 0 g.rules (held t c)) l) }

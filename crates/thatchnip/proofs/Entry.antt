@@ -34,10 +34,11 @@ use Rattle.passes.specs.TopDown.{validate_repetition, validate_choices}
 use Rattle.passes.specs.LeftRecursion.{left_recursion}
 use Rattle.passes.specs.Order.{ordered}
 use Rattle.passes.specs.Promise as P
-use Rattle.passes.specs.Promise.{Filled, LeftPass, Sorted, found_number, RulesNamed}
+use Rattle.passes.specs.Promise.{held, Leaves, left_into, Filled, LeftPass, Sorted, found_number, RulesNamed}
 use Rattle.passes.proofs.FewReports.{Few}
 use Rattle.passes.proofs.FewRecursions.{few-recursions}
 use Rattle.passes.proofs.Ordering.{ordered-count}
+use Rattle.passes.proofs.Searching.{left-tells}
 use Rattle.thatchnip.specs.Check.{loops_found, check_grammar, check}
 use Rattle.thatchnip.specs.Exit.{checked, result_number, report_bytes}
 use Rattle.thatchnip.specs.Promise.{OnlyRules, first_found, last_found, LeavesIf, FirstPasses, LastPasses, CheckedImage, Checked}
@@ -198,9 +199,10 @@ module _ (image reports : List ℕ) (count : ℕ) (holds : Holds reports (take c
     fifth : left_recursion (grammar image) (places 8 reports) 0 (grammar image).rules d₄.0 ≡ recursion
     fifth = rw long refl
 
-    pub left-refused : {reports₂ : List ℕ} {c₅ : ℕ} {k : Refusal} → LeftPass (grammar image) reports₁ c₄ reports₂ c₅ (Err k) → LastPasses image reports count (Err k) reports₂
-    left-refused {reports₂} {c₅} {k} left =
-        record { leaves = rw (d₄.1, fifth) (refused-leaves k reports₂ reports₂ recursion (λ found₅. done (ordered (grammar image) found₅)) (left.tells d₄.0 d₄.2 d₄.3)) }
+    pub left-refused :
+        {reports₂ : List ℕ} {k : Refusal} → Leaves (Err k) reports₂ (left_into (grammar image) 0 (grammar image).rules (held reports₁ c₄)) → LastPasses image reports count (Err k) reports₂
+    left-refused {reports₂} {k} left =
+        record { leaves = rw (d₄.1, fifth) (refused-leaves k reports₂ reports₂ recursion (λ found₅. done (ordered (grammar image) found₅)) (left-tells (grammar image) reports₁ c₄ reports₂ (Err k) left d₄.0 d₄.2 d₄.3)) }
 
     module _ (reports₂ : List ℕ) (c₅ : ℕ) (left : LeftPass (grammar image) reports₁ c₄ reports₂ c₅ (Ok tt)) where
       few : Few (length (grammar image).rules + length d₄.0) recursion
